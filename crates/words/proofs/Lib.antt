@@ -1,0 +1,9 @@
+pub mod Sums
+pub mod BitLaws
+mod Wrapping
+pub mod LaneLaws
+mod PairLaws
+pub mod WordLaws
+pub mod SearchLaws
+mod TableLaws
+pub mod SelectLaws

@@ -1,0 +1,237 @@
+-- The laws of `least` and `greatest`, and of rank and select over any cells: select is unique, exists exactly where k is below the number
+-- of v, and rank and select undo each other. Assumes nothing.
+use mathlib.Core.Path.{_≡_, refl, sym, ap, ap₂, _∙_, subst}
+use mathlib.Core.Bool.{Bool, true, false, cond, _&&_}
+use mathlib.Core.Logic.{_⊎_, inl, inr}
+use mathlib.Core.Option.{Option, some, none}
+use Prim.Native.Nat.{ℕ, zero, suc, _+_, _-_, _≤_, _<_, zero-le, suc-le-suc}
+use native.Mathlib.Nat.{le-refl, lt-suc-self, not-suc-le-zero}
+use native.Mathlib.Omega.{arith}
+use native.Mathlib.Decide.{ℕ-discrete}
+use lib.Dec.{eqb, leb}
+use borrow.Author.Tests.{eqb-true, eqb-false, leb-true, leb-false, eq-eqb, ne-eqb, le-leb, lt-leb}
+use Rattle.words.specs.Bits.{ones}
+use Rattle.words.specs.Strip.{orElse, least, greatest, holds, rankOf, selectOf, successorOf, predecessorOf}
+use Rattle.words.specs.Words.{placeIn}
+use Rattle.words.proofs.Sums.{lt-or, ones-suc, ones-zero, ones-ext, ones-mono, rank-one, part-ones}
+use Rattle.words.proofs.WordLaws.{holds-yes, holds-no, holds-le, holds-one}
+
+-- true, or false
+pub bool-or : (b : Bool) → (b ≡ true) ⊎ (b ≡ false)
+bool-or true = inl refl
+bool-or false = inr refl
+
+pub true-false : {b : Bool} → b ≡ true → b ≡ false → ⊥
+true-false p q = mathlib.Core.Bool.true≢false (sym p ∙ q)
+
+pub and-intro : {a b : Bool} → a ≡ true → b ≡ true → (a && b) ≡ true
+and-intro {a} {b} p q = rw (p, q)
+
+pub and-first : (a b : Bool) → (a && b) ≡ true → a ≡ true
+and-first true b h = refl
+and-first false b h = h
+
+pub and-second : (a b : Bool) → (a && b) ≡ true → b ≡ true
+and-second true b h = h
+and-second false b h = absurd (mathlib.Core.Bool.false≢true h)
+
+-- ---- the smallest position that passes a test
+
+-- p is below n, passes, and none before it does
+pub record Least (t : ℕ → Bool) (n p : ℕ) : Type 0 where
+  pub below : p < n
+  pub passes : t p ≡ true
+  pub first : (q : ℕ) → q < p → t q ≡ false
+
+-- what `least` answers
+pub data Searched (t : ℕ → Bool) (n : ℕ) : Option ℕ → Type 0 where
+  hit : (p : ℕ) → Least t n p → Searched t n (some p)
+  miss : ((q : ℕ) → q < n → t q ≡ false) → Searched t n none
+
+pub least-is : (t : ℕ → Bool) (n : ℕ) → Searched t n (least t n)
+unfolding least
+least-is t zero = miss (λ q l. absurd (not-suc-le-zero l))
+least-is t (suc n) = go (least t n) (least-is t n) (t n) refl
+  where
+    go : (r : Option ℕ) → Searched t n r → (b : Bool) → t n ≡ b → Searched t (suc n) (orElse r (cond b (some n) none))
+    go r (hit p h) b e = hit p (record { below = omega (arith, h .below); passes = h .passes; first = h .first })
+    go r (miss h) true e = hit n (record { below = lt-suc-self n; passes = e; first = h })
+    go r (miss h) false e = miss (λ q l. none-at q l (lt-or q n))
+      where
+        none-at : (q : ℕ) → q < suc n → (q < n) ⊎ (n ≤ q) → t q ≡ false
+        none-at q l (inl a) = h q a
+        none-at q l (inr a) = let e2 : q ≡ n = omega arith in ap t e2 ∙ e
+
+-- such a position is the answer
+pub least-at : (t : ℕ → Bool) (n p : ℕ) → Least t n p → least t n ≡ some p
+least-at t n p h = go (least t n) (least-is t n)
+  where
+    go : (r : Option ℕ) → Searched t n r → r ≡ some p
+    go r (hit q g) = ap some (same (lt-or p q) (lt-or q p))
+      where
+        same : (p < q) ⊎ (q ≤ p) → (q < p) ⊎ (p ≤ q) → q ≡ p
+        same (inl l) m = absurd (true-false (h .passes) (g .first p l))
+        same (inr l) (inl m) = absurd (true-false (g .passes) (h .first q m))
+        same (inr l) (inr m) = omega arith
+    go r (miss g) = absurd (true-false (h .passes) (g p (h .below)))
+
+pub least-none : (t : ℕ → Bool) (n : ℕ) → ((q : ℕ) → q < n → t q ≡ false) → least t n ≡ none
+least-none t n h = go (least t n) (least-is t n)
+  where
+    go : (r : Option ℕ) → Searched t n r → r ≡ none
+    go r (hit q g) = absurd (true-false (g .passes) (h q (g .below)))
+    go r (miss g) = refl
+
+-- the same tests, the same answer
+pub least-ext : (t u : ℕ → Bool) (n : ℕ) → ((p : ℕ) → p < n → t p ≡ u p) → least t n ≡ least u n
+unfolding least
+least-ext t u zero h = refl
+least-ext t u (suc n) h =
+    ap₂ (λ (r : Option ℕ) (b : Bool). orElse r (cond b (some n) none)) (least-ext t u n (λ p l. h p (omega arith))) (h n (lt-suc-self n))
+
+-- ---- the largest
+
+pub greatest-at : (t : ℕ → Bool) (n p : ℕ) → p < n → t p ≡ true → ((q : ℕ) → p < q → q < n → t q ≡ false) → greatest t n ≡ some p
+unfolding greatest
+greatest-at t zero p l e h = absurd (not-suc-le-zero l)
+greatest-at t (suc n) p l e h = go (lt-or p n) (greatest-at t n p)
+  where
+    go : (p < n) ⊎ (n ≤ p) → (p < n → t p ≡ true → ((q : ℕ) → p < q → q < n → t q ≡ false) → greatest t n ≡ some p)
+        → cond (t n) (some n) (greatest t n) ≡ some p
+    go (inl a) ih = rw (h n a (lt-suc-self n)) (ih a e (λ q b c. h q b (omega arith)))
+    go (inr a) ih = let s : n ≡ p = omega arith in rw (ap t s ∙ e) (ap some s)
+
+pub greatest-none : (t : ℕ → Bool) (n : ℕ) → ((q : ℕ) → q < n → t q ≡ false) → greatest t n ≡ none
+unfolding greatest
+greatest-none t zero h = refl
+greatest-none t (suc n) h = rw (h n (lt-suc-self n)) (greatest-none t n (λ q l. h q (omega arith)))
+
+pub greatest-ext : (t u : ℕ → Bool) (n : ℕ) → ((p : ℕ) → p < n → t p ≡ u p) → greatest t n ≡ greatest u n
+unfolding greatest
+greatest-ext t u zero h = refl
+greatest-ext t u (suc n) h =
+    ap₂ (λ (r : Option ℕ) (b : Bool). cond b (some n) r) (greatest-ext t u n (λ p l. h p (omega arith))) (h n (lt-suc-self n))
+
+-- ---- rank and select over cells f
+
+-- p holds v and has k of v before it
+pub record Place (f : ℕ → ℕ) (n v k p : ℕ) : Type 0 where
+  pub below : p < n
+  pub held : f p ≡ v
+  pub rank : rankOf f v p ≡ k
+
+-- two positions that hold v and have as many of v before them are one
+pub place-unique : (f : ℕ → ℕ) (n v k p q : ℕ) → Place f n v k p → Place f n v k q → p ≡ q
+place-unique f n v k p q a b = go (lt-or p q) (lt-or q p)
+  where
+    go : (p < q) ⊎ (q ≤ p) → (q < p) ⊎ (p ≤ q) → p ≡ q
+    go (inl l) m = absurd (omega (arith, rank-one (holds f v) p q (holds-yes f v p (a .held)) l, a .rank, b .rank))
+    go (inr l) (inl m) = absurd (omega (arith, rank-one (holds f v) q p (holds-yes f v q (b .held)) m, a .rank, b .rank))
+    go (inr l) (inr m) = omega arith
+
+-- select answers that position
+pub select-at : (f : ℕ → ℕ) (n v k p : ℕ) → Place f n v k p → selectOf f n v k ≡ some p
+select-at f n v k p h =
+    least-at (λ q. eqb (f q) v && eqb (rankOf f v q) k) n p
+    (record {
+      below = h .below;
+      passes = and-intro (eq-eqb (f p) v (h .held)) (eq-eqb (rankOf f v p) k (h .rank));
+      first = (λ q l. other q l (bool-or (eqb (f q) v && eqb (rankOf f v q) k)));
+    })
+  where
+    other : (q : ℕ) → q < p → ((eqb (f q) v && eqb (rankOf f v q) k) ≡ true) ⊎ ((eqb (f q) v && eqb (rankOf f v q) k) ≡ false)
+        → (eqb (f q) v && eqb (rankOf f v q) k) ≡ false
+    other q l (inl t) =
+        let e : f q ≡ v = eqb-true (f q) v (and-first (eqb (f q) v) (eqb (rankOf f v q) k) t) in
+        let r : rankOf f v q ≡ k = eqb-true (rankOf f v q) k (and-second (eqb (f q) v) (eqb (rankOf f v q) k) t) in
+        absurd (omega (arith, rank-one (holds f v) q p (holds-yes f v q e) l, r, h .rank))
+    other q l (inr t) = t
+
+-- and no other
+pub select-place : (f : ℕ → ℕ) (n v k p : ℕ) → selectOf f n v k ≡ some p → Place f n v k p
+select-place f n v k p e = go (selectOf f n v k) (least-is (λ q. eqb (f q) v && eqb (rankOf f v q) k) n) e
+  where
+    go : (r : Option ℕ) → Searched (λ q. eqb (f q) v && eqb (rankOf f v q) k) n r → r ≡ some p → Place f n v k p
+    go r (hit q g) e2 =
+        let s : q ≡ p = cc in
+        subst (λ (x : ℕ). Place f n v k x) s
+        (record {
+          below = g .below;
+          held = eqb-true (f q) v (and-first (eqb (f q) v) (eqb (rankOf f v q) k) (g .passes));
+          rank = eqb-true (rankOf f v q) k (and-second (eqb (f q) v) (eqb (rankOf f v q) k) (g .passes));
+        })
+    go r (miss g) e2 = let z : _≡_ {A = ℕ} 0 1 = cc in absurd (omega arith)
+
+-- where k is below the number of v, there is such a position
+pub place-exists : (f : ℕ → ℕ) (n v k : ℕ) → k < rankOf f v n → (p : ℕ) × Place f n v k p
+place-exists f zero v k h = absurd (omega (arith, ones-zero (holds f v)))
+place-exists f (suc n) v k h = go (lt-or k (rankOf f v n)) (place-exists f n v k)
+  where
+    go : (k < rankOf f v n) ⊎ (rankOf f v n ≤ k) → (k < rankOf f v n → (p : ℕ) × Place f n v k p) → (p : ℕ) × Place f (suc n) v k p
+    go (inl l) ih =
+        let w = ih l in
+        (w .0, record { below = omega (arith, w .1 .below); held = w .1 .held; rank = w .1 .rank })
+    go (inr l) ih = last (ℕ-discrete (f n) v)
+      where
+        last : Dec (f n ≡ v) → (p : ℕ) × Place f (suc n) v k p
+        last (yes e) =
+            (n, record { below = lt-suc-self n; held = e; rank = omega (arith, ones-suc (holds f v) n, holds-le f v n) })
+        last (no d) = absurd (omega (arith, ones-suc (holds f v) n, holds-no f v n d))
+
+-- find has an answer exactly where k is below the number of v
+pub select-exists : (f : ℕ → ℕ) (n v k : ℕ) → k < rankOf f v n → (p : ℕ) × (selectOf f n v k ≡ some p)
+select-exists f n v k h = let w = place-exists f n v k h in (w .0, select-at f n v k (w .0) (w .1))
+
+pub select-below : (f : ℕ → ℕ) (n v k p : ℕ) → selectOf f n v k ≡ some p → k < rankOf f v n
+select-below f n v k p e =
+    let w = select-place f n v k p e in
+    omega (arith, rank-one (holds f v) p n (holds-yes f v p (w .held)) (w .below), w .rank)
+
+pub select-none : (f : ℕ → ℕ) (n v k : ℕ) → rankOf f v n ≤ k → selectOf f n v k ≡ none
+select-none f n v k h = go (selectOf f n v k) refl
+  where
+    go : (r : Option ℕ) → selectOf f n v k ≡ r → r ≡ none
+    go (some p) e = absurd (omega (arith, select-below f n v k p e))
+    go none e = refl
+
+-- count undoes find, and find undoes count
+pub rank-select : (f : ℕ → ℕ) (n v k p : ℕ) → selectOf f n v k ≡ some p → rankOf f v p ≡ k
+rank-select f n v k p e = select-place f n v k p e .rank
+
+pub select-rank : (f : ℕ → ℕ) (n v p : ℕ) → p < n → f p ≡ v → selectOf f n v (rankOf f v p) ≡ some p
+select-rank f n v p l e = select-at f n v (rankOf f v p) p (record { below = l; held = e; rank = refl })
+
+-- ---- the answer as one number: the position, or the width
+pub placeIn-at : (f : ℕ → ℕ) (n v k p : ℕ) → Place f n v k p → placeIn n (selectOf f n v k) ≡ p
+placeIn-at f n v k p h = ap (placeIn n) (select-at f n v k p h)
+
+pub placeIn-none : (f : ℕ → ℕ) (n v k : ℕ) → rankOf f v n ≤ k → placeIn n (selectOf f n v k) ≡ n
+placeIn-none f n v k h = ap (placeIn n) (select-none f n v k h)
+
+pub placeIn-place : (f : ℕ → ℕ) (n v k : ℕ) → k < rankOf f v n → Place f n v k (placeIn n (selectOf f n v k))
+placeIn-place f n v k h =
+    let w = place-exists f n v k h in
+    subst (λ (p : ℕ). Place f n v k p) (sym (placeIn-at f n v k (w .0) (w .1))) (w .1)
+
+-- ---- cells g that are a part of f, w of them from a on
+pub rank-ext : (f g : ℕ → ℕ) (v n : ℕ) → ((p : ℕ) → p < n → f p ≡ g p) → rankOf f v n ≡ rankOf g v n
+rank-ext f g v n h = ones-ext (holds f v) (holds g v) n (λ p l. ap (λ (x : ℕ). cond (eqb x v) 1 0) (h p l))
+
+pub rank-part : (f g : ℕ → ℕ) (a w v m : ℕ) → ((p : ℕ) → p < w → g p ≡ f (a + p)) → m ≤ w → rankOf f v (a + m) ≡ rankOf f v a + rankOf g v m
+rank-part f g a w v m part l =
+    part-ones (holds f v) (holds g v) a w m (λ p q. ap (λ (x : ℕ). cond (eqb x v) 1 0) (part p q)) l
+
+-- the k-th v lies in that part, which has `under` of v before it
+pub place-in : (f g : ℕ → ℕ) (a w n v k under e : ℕ) → ((p : ℕ) → p < w → g p ≡ f (a + p)) → a + w ≤ n
+    → under ≡ rankOf f v a → under ≤ k → Place g w v (k - under) e → Place f n v k (a + e)
+place-in f g a w n v k under e part top eu l h =
+    let below : e < w = h .below in
+    record {
+      below = omega arith;
+      held = sym (part e below) ∙ h .held;
+      rank = omega (arith, rank-part f g a w v e part (omega arith), h .rank);
+    }
+
+-- of bits, the rank of 1 is the ones
+pub rank-ones : (f : ℕ → ℕ) (n : ℕ) → ((p : ℕ) → f p ≤ 1) → rankOf f 1 n ≡ ones f n
+rank-ones f n h = ones-ext (holds f 1) f n (λ p l. holds-one f p (h p))

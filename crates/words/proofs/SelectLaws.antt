@@ -1,0 +1,124 @@
+-- Select in a word by its bytes: which byte, how many ones before it, and the position. Assumes nothing.
+use mathlib.Core.Path.{_≡_, refl, sym, ap, ap₂, _∙_, subst}
+use mathlib.Core.Bool.{Bool, true, false, cond}
+use mathlib.Core.Logic.{_⊎_, inl, inr}
+use Prim.Native.Nat.{ℕ, zero, suc, _+_, _-_, _*_, _/_, _%_, _^_, _≤_, _<_, zero-le}
+use native.Mathlib.Nat.{le-refl, div-one, mul-mod-left, mul-div-cancel, lt-suc-self}
+use native.Mathlib.Numerals.{add-one}
+use native.Mathlib.Omega.{arith}
+use lib.Dec.{leb, lit≤}
+use lib.Pow as W
+use borrow.Author.Tests.{le-leb, lt-leb}
+use Rattle.words.specs.Bits.{bit, ones}
+use Rattle.words.specs.Strip.{rankOf, selectOf}
+use Rattle.words.specs.Words.{byteOf, onesInByte, Prefixes, placeIn, selectIn}
+use Rattle.words.proofs.Sums.{lt-or, ones-zero, ones-suc, ones-ext, ones-le, ones-mono}
+use Rattle.words.proofs.BitLaws.{bit-le, byte-bit, byte-ones}
+use Rattle.words.proofs.SearchLaws.{Place, place-in, placeIn-at, placeIn-none, placeIn-place, rank-ones}
+
+-- the ones of the first j bytes
+pub bytes-ones : (x j : ℕ) → ones (onesInByte x) j ≡ ones (bit x) (8 * j)
+bytes-ones x zero = ones-zero (onesInByte x) ∙ sym (ones-zero (bit x))
+bytes-ones x (suc j) =
+    let e : 8 * suc j ≡ 8 * j + 8 = omega arith in
+    ones-suc (onesInByte x) j
+    ∙ ap (λ (n : ℕ). n + onesInByte x j) (bytes-ones x j)
+    ∙ sym (ap (ones (bit x)) e ∙ byte-ones x (8 * j) 8 (lit≤ tt))
+
+-- ---- of rising numbers, how many are at most k: those before the first that is above it
+abbrev pub atMost : (ℕ → ℕ) → ℕ → ℕ → ℕ
+atMost P k j = cond (leb (P j) k) 1 0
+
+pub record Reached (P : ℕ → ℕ) (k n c : ℕ) : Type 0 where
+  pub within : c ≤ n
+  pub low : (j : ℕ) → j < c → P j ≤ k
+  pub above : c < n → k < P c
+
+pub reached : (P : ℕ → ℕ) (k n : ℕ) → ((i j : ℕ) → i ≤ j → P i ≤ P j) → Reached P k n (ones (atMost P k) n)
+reached P k zero up =
+    rw (ones-zero (atMost P k)) (record { within = zero-le; low = (λ j l. absurd (omega arith)); above = (λ l. absurd (omega arith)) })
+reached P k (suc n) up = go (lt-or k (P n)) (reached P k n up)
+  where
+    go : (k < P n) ⊎ (P n ≤ k) → Reached P k n (ones (atMost P k) n) → Reached P k (suc n) (ones (atMost P k) (suc n))
+    go (inl l) ih =
+        let c : ℕ = ones (atMost P k) n in
+        let t : atMost P k n ≡ 0 = simp (lt-leb (P n) k l) in
+        let e : ones (atMost P k) (suc n) ≡ c = ones-suc (atMost P k) n ∙ omega (arith, t) in
+        rw e (record {
+          within = omega (arith, ih .within);
+          low = ih .low;
+          above = (λ h. first c (ih .within) (ih .above) (lt-or c n));
+        })
+      where
+        first : (c : ℕ) → c ≤ n → (c < n → k < P c) → (c < n) ⊎ (n ≤ c) → k < P c
+        first c w a (inl h) = a h
+        first c w a (inr h) = let s : c ≡ n = omega arith in rw s l
+    go (inr l) ih =
+        let c : ℕ = ones (atMost P k) n in
+        let t : atMost P k n ≡ 1 = simp (le-leb (P n) k l) in
+        let all : c ≡ n = full c (ih .within) (ih .above) (lt-or c n) in
+        let e : ones (atMost P k) (suc n) ≡ suc n = ones-suc (atMost P k) n ∙ omega (arith, t, all) in
+        rw e (record {
+          within = le-refl (suc n);
+          low = (λ j h. native.Mathlib.Nat.le-trans (up j n (omega arith)) l);
+          above = (λ h. absurd (omega arith));
+        })
+      where
+        full : (c : ℕ) → c ≤ n → (c < n → k < P c) → (c < n) ⊎ (n ≤ c) → c ≡ n
+        full c w a (inl h) = absurd (omega (arith, a h, up c n w))
+        full c w a (inr h) = omega arith
+
+-- ---- the byte that holds the k-th one
+-- the ones of bytes 0 to j
+abbrev upto : ℕ → ℕ → ℕ
+upto x j = ones (bit x) (8 * j + 8)
+
+upto-is : (x s j : ℕ) → Prefixes x s → j < 8 → byteOf s j ≡ upto x j
+upto-is x s j h l = let e : 8 * (j + 1) ≡ 8 * j + 8 = omega arith in h j l ∙ bytes-ones x (j + 1) ∙ ap (ones (bit x)) e
+
+-- no prefix sum is above 64
+pub prefix-le : (x s j : ℕ) → Prefixes x s → j < 8 → byteOf s j ≤ 64
+prefix-le x s j h l = omega (arith, upto-is x s j h l, ones-le (bit x) (8 * j + 8) (bit-le x))
+
+pub byte-reached : (x s k c : ℕ) → Prefixes x s → c ≡ ones (atMost (byteOf s) k) 8 → Reached (upto x) k 8 c
+byte-reached x s k c h e =
+    let same : ones (atMost (byteOf s) k) 8 ≡ ones (atMost (upto x) k) 8 =
+    ones-ext (atMost (byteOf s) k) (atMost (upto x) k) 8 (λ j l. ap (λ (n : ℕ). cond (leb n k) 1 0) (upto-is x s j h l)) in
+    subst (λ (n : ℕ). Reached (upto x) k 8 n) (sym (e ∙ same)) (reached (upto x) k 8 (λ i j l. ones-mono (bit x) (omega arith)))
+
+-- the sums shifted up by a lane: lane j has the ones before byte j
+pub under-is : (x s j : ℕ) → Prefixes x s → j < 8 → (s * 2 ^ 8) % 2 ^ 64 / 2 ^ (8 * j) % 2 ^ 8 ≡ ones (bit x) (8 * j)
+under-is x s j h l =
+    let e : (64 - 8 * j) + 8 * j ≡ 64 = omega arith in
+    let d : (56 - 8 * j) + 8 ≡ 64 - 8 * j = omega arith in
+    ap (λ (n : ℕ). (s * 2 ^ 8) % 2 ^ n / 2 ^ (8 * j) % 2 ^ 8) (sym e)
+    ∙ ap (λ (n : ℕ). n % 2 ^ 8) (W.field (s * 2 ^ 8) (64 - 8 * j) (8 * j))
+    ∙ ap (λ (n : ℕ). s * 2 ^ 8 / 2 ^ (8 * j) % 2 ^ n % 2 ^ 8) (sym d)
+    ∙ W.mod-mod-pow (s * 2 ^ 8 / 2 ^ (8 * j)) (56 - 8 * j) 8
+    ∙ lane j l
+  where
+    lane : (j : ℕ) → j < 8 → s * 2 ^ 8 / 2 ^ (8 * j) % 2 ^ 8 ≡ ones (bit x) (8 * j)
+    lane zero q = ap (λ (n : ℕ). n % 2 ^ 8) (div-one (s * 2 ^ 8)) ∙ mul-mod-left s (2 ^ 8) ∙ sym (ones-zero (bit x))
+    lane (suc i) q =
+        let m : 8 * suc i ≡ 8 + 8 * i = omega arith in
+        let m2 : 8 * i + 8 ≡ 8 * suc i = omega arith in
+        ap (λ (n : ℕ). s * 2 ^ 8 / 2 ^ n % 2 ^ 8) m
+        ∙ ap (λ (n : ℕ). n % 2 ^ 8) (sym (W.shr-shr (s * 2 ^ 8) 8 (8 * i)))
+        ∙ ap (λ (n : ℕ). n / 2 ^ (8 * i) % 2 ^ 8) (mul-div-cancel s (W.pow-pos 8))
+        ∙ upto-is x s i h (omega arith)
+        ∙ ap (ones (bit x)) m2
+
+-- ---- the answer
+pub few : (x k : ℕ) → ones (bit x) 64 ≤ k → selectIn 64 x k ≡ 64
+few x k h = placeIn-none (bit x) 64 1 k (omega (arith, rank-ones (bit x) 64 (bit-le x)))
+
+-- byte j has the k-th one at the place e
+pub found : (x k j under e : ℕ) → j < 8 → under ≡ ones (bit x) (8 * j) → under ≤ k → k < upto x j → e ≡ selectIn 8 (byteOf x j) (k - under)
+    → (selectIn 64 x k ≡ 8 * j + e) × (e < 8)
+found x k j under e l eu lu h ee =
+    let b : ℕ = byteOf x j in
+    let some : k - under < rankOf (bit b) 1 8 = omega (arith, rank-ones (bit b) 8 (bit-le b), byte-ones x (8 * j) 8 (le-refl 8)) in
+    let p : Place (bit b) 8 1 (k - under) e = subst (λ (n : ℕ). Place (bit b) 8 1 (k - under) n) (sym ee) (placeIn-place (bit b) 8 1 (k - under) some) in
+    let q : Place (bit x) 64 1 k (8 * j + e) =
+    place-in (bit x) (bit b) (8 * j) 8 64 1 k under e (byte-bit x (8 * j)) (omega arith) (eu ∙ sym (rank-ones (bit x) (8 * j) (bit-le x))) lu p in
+    (placeIn-at (bit x) 64 1 k (8 * j + e) q, p .below)

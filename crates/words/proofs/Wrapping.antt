@@ -1,0 +1,22 @@
+-- Products modulo a number, made of sums modulo it. Assumes nothing.
+use mathlib.Core.Path.{_≡_, sym, ap, _∙_}
+use Prim.Native.Nat.{ℕ, _+_, _*_, _/_, _%_}
+use native.Mathlib.Nat.{add-mod-mod, mul-add-mod-self-right, add-mul, mul-add, mul-one, mul-assoc, mul-comm, div-add-mod'}
+
+-- a factor may be taken modulo m first
+pub mod-mul-mod : (a b m : ℕ) → (a % m * b) % m ≡ (a * b) % m
+mod-mul-mod a b m =
+    let swap : a / m * m * b ≡ a / m * b * m = mul-assoc (a / m) m b ∙ ap (λ (t : ℕ). a / m * t) (mul-comm m b) ∙ sym (mul-assoc (a / m) b m) in
+    let e : a * b ≡ a / m * b * m + a % m * b =
+    ap (λ (t : ℕ). t * b) (sym (div-add-mod' a m)) ∙ add-mul (a / m * m) (a % m) b ∙ ap (λ (t : ℕ). t + a % m * b) swap in
+    sym (ap (λ (t : ℕ). t % m) e ∙ mul-add-mod-self-right (a / m * b) m (a % m * b))
+
+-- where y is x times p modulo m, y plus y times q is x times p (1 + q)
+pub wrapping-step : (m x p y z q : ℕ) → y ≡ (x * p) % m → z ≡ (y + (y * q) % m) % m → z ≡ (x * (p * (1 + q))) % m
+wrapping-step m x p y z q ey ez =
+    ez
+    ∙ add-mod-mod y (y * q) m
+    ∙ ap (λ (t : ℕ). t % m) (ap (λ (t : ℕ). t + y * q) (sym (mul-one y)) ∙ sym (mul-add y 1 q))
+    ∙ ap (λ (t : ℕ). (t * (1 + q)) % m) ey
+    ∙ mod-mul-mod (x * p) (1 + q) m
+    ∙ ap (λ (t : ℕ). t % m) (mul-assoc x p (1 + q))

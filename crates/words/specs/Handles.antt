@@ -1,0 +1,40 @@
+-- The handle, and the checks that all strip calls share. Assumes nothing.
+use Prim.Native.Nat.{ℕ, _/_, _%_}
+use mathlib.Core.Bool.{Bool, true, false, not, _&&_}
+use mathlib.Core.List.{List, [], _∷_}
+use lib.Dec.{leb, eqb}
+use Rattle.words.specs.declared.handle.Handle.{Handle}
+use Rattle.words.specs.declared.refusal.Refusal.the-variants as refusal
+use Rattle.words.specs.Refusals.{Line, _⇒_}
+
+-- a block: the step of the capacity, and the smallest one
+abbrev pub blockBits : ℕ
+blockBits = 512
+
+-- the largest capacity
+abbrev pub mostBits : ℕ
+mostBits = 134217728
+
+-- capacity allowed: a multiple of 512, from 512 to 134,217,728
+abbrev pub allowed : ℕ → Bool
+allowed c = eqb (c % blockBits) 0 && (leb blockBits c && leb c mostBits)
+
+-- a handle has capacity and length
+abbrev pub handle : ℕ → ℕ → Handle
+handle c n = record { capacity = c; length = n }
+
+-- a capacity that is allowed, and a length not above it
+abbrev pub good : Handle → Bool
+good h = allowed (h .capacity) && leb (h .length) (h .capacity)
+
+-- the number of words
+abbrev pub wordsOf : ℕ → ℕ
+wordsOf c = c / 64
+
+-- all strip calls first: 1; 2; 3, where `right` says that the counters, where taken, are exactly as many as the capacity needs
+abbrev pub strip : Handle → ℕ → Bool → List Line
+strip h words right =
+    (not (good h) ⇒ refusal.Handle)
+    ∷ (not (eqb words (wordsOf (h .capacity))) ⇒ refusal.WordCount)
+    ∷ (not right ⇒ refusal.CounterCount)
+    ∷ []

@@ -1,0 +1,67 @@
+-- The strip, and count, find, next and prior over it, by their standard names. Assumes nothing.
+use Prim.Native.Nat.{ℕ, zero, suc}
+use mathlib.Core.Bool.{Bool, true, false, cond, _&&_}
+use mathlib.Core.List.{List}
+use mathlib.Core.Option.{Option, some, none}
+use lib.ListN.{length, getD}
+use lib.Dec.{leb, eqb}
+use Rattle.words.specs.Bits.{bitAt, ones, listOf}
+
+-- a strip is a list of bits, position 0 first: the bit at position p
+abbrev pub cell : List ℕ → ℕ → ℕ
+cell s p = getD s p 0
+
+-- the strip of length n that a list of words holds
+abbrev pub stripOf : List ℕ → ℕ → List ℕ
+stripOf ws n = listOf (bitAt ws) n
+
+-- the position a, or b where a is none
+abbrev pub orElse : Option ℕ → Option ℕ → Option ℕ
+orElse (some p) b = some p
+orElse none b = b
+
+-- the smallest position below n that passes the test
+unfoldable pub least : (ℕ → Bool) → ℕ → Option ℕ
+least t zero = none
+least t (suc n) = orElse (least t n) (cond (t n) (some n) none)
+
+-- the largest position below n that passes the test
+unfoldable pub greatest : (ℕ → Bool) → ℕ → Option ℕ
+greatest t zero = none
+greatest t (suc n) = cond (t n) (some n) (greatest t n)
+
+-- 1 where the cell holds v, else 0
+abbrev pub holds : (ℕ → ℕ) → ℕ → ℕ → ℕ
+holds f v p = cond (eqb (f p) v) 1 0
+
+-- The four definitions, over any cells f, of which there are n: those of a strip, of a word, of a byte.
+
+-- count(v, i): how many of the first i cells equal v
+abbrev pub rankOf : (ℕ → ℕ) → ℕ → ℕ → ℕ
+rankOf f v i = ones (holds f v) i
+
+-- find(v, k): the position p that holds v and has count(v, p) = k
+abbrev pub selectOf : (ℕ → ℕ) → ℕ → ℕ → ℕ → Option ℕ
+selectOf f n v k = least (λ p. eqb (f p) v && eqb (rankOf f v p) k) n
+
+-- next(v, i): the smallest position at or past i, below n, holding v
+abbrev pub successorOf : (ℕ → ℕ) → ℕ → ℕ → ℕ → Option ℕ
+successorOf f n v i = least (λ p. leb i p && eqb (f p) v) n
+
+-- prior(v, i): the largest position below i holding v
+abbrev pub predecessorOf : (ℕ → ℕ) → ℕ → ℕ → Option ℕ
+predecessorOf f v i = greatest (λ p. eqb (f p) v) i
+
+-- The same over a strip.
+
+abbrev pub rank : List ℕ → ℕ → ℕ → ℕ
+rank s v i = rankOf (cell s) v i
+
+abbrev pub select : List ℕ → ℕ → ℕ → Option ℕ
+select s v k = selectOf (cell s) (length s) v k
+
+abbrev pub successor : List ℕ → ℕ → ℕ → Option ℕ
+successor s v i = successorOf (cell s) (length s) v i
+
+abbrev pub predecessor : List ℕ → ℕ → ℕ → Option ℕ
+predecessor s v i = predecessorOf (cell s) v i
