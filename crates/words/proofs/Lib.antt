@@ -7,3 +7,7 @@ pub mod WordLaws
 pub mod SearchLaws
 mod TableLaws
 pub mod SelectLaws
+pub mod ScanLaws
+pub mod CheckLaws
+pub mod StripLaws
+pub mod Examples

@@ -18,22 +18,33 @@ abbrev pub isNone : Option ℕ → Bool
 isNone (some p) = false
 isNone none = true
 
--- position i not below the length: 1, 2, 3; 4
-abbrev pub below : Handle → ℕ → Bool → ℕ → List Line
-below h words right i = strip h words right ++ ((leb (h .length) i ⇒ refusal.Position) ∷ [])
+-- 4 where i is not below the length
+abbrev pub positionLines : Handle → ℕ → List Line
+positionLines h i = (leb (h .length) i ⇒ refusal.Position) ∷ []
 
--- v neither 0 nor 1, then i above the length: 1, 2, 3; 8; 4
+-- 8 where v is neither 0 nor 1; 4 where i is above the length
+abbrev pub valueLines : Handle → ℕ → ℕ → List Line
+valueLines h v i = (ltb 1 v ⇒ refusal.Value) ∷ (ltb (h .length) i ⇒ refusal.Position) ∷ []
+
+-- a call that takes a position below the length: 1, 2, 3; 4
+abbrev pub below : Handle → ℕ → Bool → ℕ → List Line
+below h words right i = strip h words right ++ positionLines h i
+
+-- a call that takes a value and a position not above the length: 1, 2, 3; 8; 4
 abbrev pub valued : Handle → ℕ → Bool → ℕ → ℕ → List Line
-valued h words right v i = strip h words right ++ ((ltb 1 v ⇒ refusal.Value) ∷ (ltb (h .length) i ⇒ refusal.Position) ∷ [])
+valued h words right v i = strip h words right ++ valueLines h v i
+
+-- 6 where there is no position
+abbrev pub foundLines : Option ℕ → List Line
+foundLines place = (isNone place ⇒ refusal.NotFound) ∷ []
 
 -- look(i): 1, 2; 4; the bit
 abbrev pub getAnswer : Handle → List ℕ → ℕ → Answer
 getAnswer h ws i = answer (judge (below h (length ws) true i)) (cell (stripOf ws (h .length)) i)
 
--- a call on words that takes v and i and gives a position: 1, 2; 8; 4; 6 none
+-- a call on words alone that takes v and i and gives a position: 1, 2; 8; 4; 6
 abbrev pub located : Handle → List ℕ → ℕ → ℕ → Option ℕ → Answer
-located h ws v i place =
-    answer (judge (valued h (length ws) true v i ++ ((isNone place ⇒ refusal.NotFound) ∷ []))) (placeIn 0 place)
+located h ws v i place = answer (judge (valued h (length ws) true v i ++ foundLines place)) (placeIn 0 place)
 
 -- next(v, i)
 abbrev pub successorAnswer : Handle → List ℕ → ℕ → ℕ → Answer

@@ -73,9 +73,10 @@ select-in-byte-requires : tie.Need-select-in-byte-requires
 select-in-byte-requires c κs =
     let x : ℕ = c .before .before .before .before .args .x in
     let j : ℕ = c .before .lanes-at-most .result in
-    let b : ℕ = byteOf x j in
-    (mod-lt (x / 2 ^ (8 * j)) (zero-lt-suc 255),
-    omega (arith, under-le c, under-ones c, which (c .before) .above (omega arith), byte-ones x (8 * j) 8 (le-refl 8), ones-le (bit b) 8 (bit-le b)))
+    let b : ℕ = byteOf x j in (
+      mod-lt (x / 2 ^ (8 * j)) (zero-lt-suc 255),
+      omega (arith, under-le c, under-ones c, which (c .before) .above (omega arith), byte-ones x (8 * j) 8 (le-refl 8), ones-le (bit b) 8 (bit-le b)),
+    )
 
 -- the position, and that it is in the byte
 at : (c : tie.After-select-in-byte)

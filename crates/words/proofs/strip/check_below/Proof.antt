@@ -1,33 +1,39 @@
+-- `words::strip::check_below` meets its contract. Assumes nothing.
+use mathlib.Core.Path.{sym, _∙_}
+use mathlib.Core.List.{[], _∷_}
 use borrow.Author.Needs.{needs}
+use borrow.Author.Tests.{le-leb, lt-leb}
+use Rattle.words.specs.Handles.{strip}
+use Rattle.words.specs.Calls.{positionLines}
+use Rattle.words.proofs.CheckLaws.{refused-first, passed-first}
 use Rattle.words.proofs.strip.check_below.Statement.{statement}
 use Rattle.words.proofs.strip.check_below.Tie as tie
-use Rattle.words.proofs.strip.check_below.Reads as reads
-use Rattle.words.proofs.strip.check_below.Lts as lts
-use Rattle.words.proofs.handle.check_strip.Reads as check-strip-reads
 
--- src/strip.rt:19:9
 check-strip-requires : tie.Need-check-strip-requires
 check-strip-requires c κs = search needs
 
 enum-told : tie.Need-enum-told
 enum-told c = search needs
 
--- src/strip.rt:21:9
 enum-told-2 : tie.Need-enum-told-2
 enum-told-2 c = search needs
 
--- src/strip.rt:21:9
 returns : tie.Need-returns
-returns c = ?
+returns c =
+    let a = c .before .before .before .args in
+    refused-first (strip (a .h) (a .words) (a .right)) (positionLines (a .h) (a .i)) _ _ (c .before .before .check-strip .ensures) (c .enum-told2 .given .1)
 
--- src/strip.rt:24:9
 returns-2 : tie.Need-returns-2
-returns-2 c = ?
+returns-2 c =
+    let a = c .before .before .before .before .before .args in
+    sym (passed-first (strip (a .h) (a .words) (a .right)) (positionLines (a .h) (a .i)) _ (c .before .before .before .before .check-strip .ensures) (c .before .before .enum-told .given .1)
+    ∙ simp (le-leb _ _ (c .if1 .taken)))
 
--- src/strip.rt:16:1
 returns-3 : tie.Need-returns-3
-returns-3 c = ?
+returns-3 c =
+    let a = c .before .before .before .before .before .args in
+    sym (passed-first (strip (a .h) (a .words) (a .right)) (positionLines (a .h) (a .i)) _ (c .before .before .before .before .check-strip .ensures) (c .before .before .enum-told .given .1)
+    ∙ simp (lt-leb _ _ (c .if1 .left)))
 
 pub check-below-spec : {M : Type 1} → statement M
-check-below-spec =
-    tie.close (tie.spec check-strip-requires enum-told enum-told-2 returns returns-2 returns-3)
+check-below-spec = tie.close (tie.spec check-strip-requires enum-told enum-told-2 returns returns-2 returns-3)

@@ -1,38 +1,49 @@
+-- `words::strip::check_valued` meets its contract. Assumes nothing.
+use mathlib.Core.Path.{sym, _∙_}
 use borrow.Author.Needs.{needs}
+use borrow.Author.Tests.{lt-ltb, le-ltb}
+use Rattle.words.specs.Handles.{strip}
+use Rattle.words.specs.Calls.{valueLines}
+use Rattle.words.proofs.CheckLaws.{refused-first, passed-first}
 use Rattle.words.proofs.strip.check_valued.Statement.{statement}
 use Rattle.words.proofs.strip.check_valued.Tie as tie
-use Rattle.words.proofs.strip.check_valued.Reads as reads
-use Rattle.words.proofs.strip.check_valued.Lts as lts
-use Rattle.words.proofs.handle.check_strip.Reads as check-strip-reads
 
--- src/strip.rt:33:9
 check-strip-requires : tie.Need-check-strip-requires
 check-strip-requires c κs = search needs
 
 enum-told : tie.Need-enum-told
 enum-told c = search needs
 
--- src/strip.rt:35:9
 enum-told-2 : tie.Need-enum-told-2
 enum-told-2 c = search needs
 
--- src/strip.rt:35:9
 returns : tie.Need-returns
-returns c = ?
+returns c =
+    let a = c .before .before .before .args in
+    refused-first (strip (a .h) (a .words) (a .right)) (valueLines (a .h) (a .v) (a .i)) _ _ (c .before .before .check-strip .ensures) (c .enum-told2 .given .1)
 
--- src/strip.rt:38:9
 returns-2 : tie.Need-returns-2
-returns-2 c = ?
+returns-2 c =
+    let a = c .before .before .before .before .args in
+    sym (passed-first (strip (a .h) (a .words) (a .right)) (valueLines (a .h) (a .v) (a .i)) _ (c .before .before .before .check-strip .ensures)
+    (c .before .enum-told .given .1)
+    ∙ simp (lt-ltb _ _ (c .if1 .taken)))
 
--- src/strip.rt:41:9
 returns-3 : tie.Need-returns-3
-returns-3 c = ?
+returns-3 c =
+    let a = c .before .before .before .before .before .before .args in
+    sym (passed-first (strip (a .h) (a .words) (a .right)) (valueLines (a .h) (a .v) (a .i)) _
+    (c .before .before .before .before .before .check-strip .ensures)
+    (c .before .before .before .enum-told .given .1)
+    ∙ simp (le-ltb _ _ (c .before .before .if1 .left), lt-ltb _ _ (c .if2 .taken)))
 
--- src/strip.rt:30:1
 returns-4 : tie.Need-returns-4
-returns-4 c = ?
+returns-4 c =
+    let a = c .before .before .before .before .before .before .args in
+    sym (passed-first (strip (a .h) (a .words) (a .right)) (valueLines (a .h) (a .v) (a .i)) _
+    (c .before .before .before .before .before .check-strip .ensures)
+    (c .before .before .before .enum-told .given .1)
+    ∙ simp (le-ltb _ _ (c .before .before .if1 .left), le-ltb _ _ (c .if2 .left)))
 
 pub check-valued-spec : {M : Type 1} → statement M
-check-valued-spec =
-    tie.close
-    (tie.spec check-strip-requires enum-told enum-told-2 returns returns-2 returns-3 returns-4)
+check-valued-spec = tie.close (tie.spec check-strip-requires enum-told enum-told-2 returns returns-2 returns-3 returns-4)

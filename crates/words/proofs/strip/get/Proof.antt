@@ -1,42 +1,58 @@
+-- `words::strip::get` meets its contract. Assumes nothing.
+use mathlib.Core.Path.{_≡_, sym, _∙_}
+use mathlib.Core.Bool.{true}
+use Prim.Native.Nat.{ℕ, _<_}
+use native.Mathlib.Omega.{arith}
 use borrow.Author.Needs.{needs}
+use lib.ListN.{length}
+use Rattle.words.specs.Strip.{cell, stripOf}
+use Rattle.words.specs.Calls.{below}
+use Rattle.words.proofs.CheckLaws.{Checked, checked-below}
+use Rattle.words.proofs.StripLaws.{strip-cell, answer-refused, answer-passed}
 use Rattle.words.proofs.strip.get.Statement.{statement}
 use Rattle.words.proofs.strip.get.Tie as tie
-use Rattle.words.proofs.strip.get.Reads as reads
-use Rattle.words.proofs.strip.get.Lts as lts
-use Rattle.words.proofs.bits.bit_of.Reads as bit-of-reads
-use Rattle.words.proofs.strip.check_below.Reads as check-below-reads
 
--- src/strip.rt:50:11
 check-below-requires : tie.Need-check-below-requires
 check-below-requires c κs = search needs
 
--- src/strip.rt:51:25
 enum-known-r : tie.Need-enum-known-r
 enum-known-r c = search needs
 
--- src/strip.rt:52:50
 enum-told : tie.Need-enum-told
 enum-told c = search needs
 
--- src/strip.rt:52:44
 mul-bit-of : tie.Need-mul-bit-of
 mul-bit-of c = search needs
 
--- src/strip.rt:52:44
-shared-slice-read-bit-of : tie.Need-shared-slice-read-bit-of
-shared-slice-read-bit-of c = ?
+-- what the checks leave
+known : (c : tie.After-enum-told)
+    → Checked (c .before .before .before .before .args .h) (length (c .before .before .before .before .args .words .now)) true
+    × (c .before .before .before .before .args .i < c .before .before .before .before .args .h .length)
+known c =
+    let a = c .before .before .before .before .args in
+    checked-below (a .h) (length (a .words .now)) true (a .i) (c .before .before .check-below .result)
+    (c .before .before .check-below .ensures) (c .enum-told .given .1)
 
--- src/strip.rt:52:37
+shared-slice-read-bit-of : tie.Need-shared-slice-read-bit-of
+shared-slice-read-bit-of c = let k = known (c .before) in omega (arith, k .0 .count, k .0 .step, k .0 .long, k .1)
+
 bit-of-requires : tie.Need-bit-of-requires
 bit-of-requires c κs = search needs
 
--- src/strip.rt:47:1
 returns : tie.Need-returns
-returns c = ?
+returns c =
+    let a = c .before .before .before .before .before .args in
+    answer-refused (below (a .h) (length (a .words .now)) true (a .i)) (c .before .before .before .check-below .result) (c .before .r .given .0 .0)
+    (cell (stripOf (a .words .now) (a .h .length)) (a .i))
+    (c .before .before .before .check-below .ensures) (c .before .r .given .1)
 
--- src/strip.rt:47:1
 returns-2 : tie.Need-returns-2
-returns-2 c = ?
+returns-2 c =
+    let a = c .before .before .before .before .before .before .args in
+    answer-passed (below (a .h) (length (a .words .now)) true (a .i)) (c .before .before .before .before .check-below .result)
+    (cell (stripOf (a .words .now) (a .h .length)) (a .i)) (c .bit-of .result)
+    (c .before .before .before .before .check-below .ensures) (c .before .before .enum-told .given .1)
+    (c .bit-of .ensures ∙ sym (strip-cell (a .words .now) (a .h .length) (a .i) (known (c .before .before) .1)))
 
 pub get-spec : {M : Type 1} → statement M
 get-spec =
