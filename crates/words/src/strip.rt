@@ -38,7 +38,7 @@ pub fn check_valued(h: Handle, words: usize, right: bool, v: u64, i: usize) -> V
         return Verdict::Refuse(Refusal::Value);
     }
     if h.length < i {
-        return Verdict::Refuse(Refusal::Position);
+        return Verdict::Refuse(Refusal::Position); // above the length
     }
     Verdict::Pass
 }
