@@ -1,5 +1,6 @@
 // Refusals, the verdict of a call's checks, and the answer of a reading call.
 ghost use mathlib.Core.Path.{_≡_};
+ghost use Prim.Native.Nat.{_<_};
 ghost use Rattle.words.specs.Refusals.{numberOf, coded as codedOf};
 
 // Why a call is refused, in the order of the numbers 1 to 15.
@@ -35,7 +36,7 @@ pub enum Answer {
 
 // The number of a refusal.
 pub fn number(r: Refusal) -> u64
-    ensures { λ n. ⌜ n ≡ numberOf r ⌝ }
+    ensures { λ n. ⌜ (n ≡ numberOf r) × (n < 16) ⌝ }
 {
     match r {
         Refusal::Handle => 1,
@@ -53,5 +54,15 @@ pub fn number(r: Refusal) -> u64
         Refusal::ImageSize => 13,
         Refusal::LabelAbsent => 14,
         Refusal::WrongRow => 15,
+    }
+}
+
+// An answer as one number: the value, or 2^32 plus the refusal's number.
+pub fn coded(a: Answer) -> u64
+    ensures { λ r. ⌜ r ≡ codedOf a ⌝ }
+{
+    match a {
+        Answer::Is(x) => x,
+        Answer::Refused(r) => 4294967296 + number(r),
     }
 }

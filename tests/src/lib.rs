@@ -1,0 +1,81 @@
+//! The proved calls on words, to be compared with a plain model of them.
+pub mod model;
+pub mod random;
+
+extern "C" {
+    // include/testing.h says what each answers.
+    fn strip_get(capacity: usize, length: usize, words: *const u64, count: usize, i: usize) -> u64;
+    fn strip_successor(capacity: usize, length: usize, words: *const u64, count: usize, v: u64, i: usize) -> u64;
+    fn strip_predecessor(capacity: usize, length: usize, words: *const u64, count: usize, v: u64, i: usize) -> u64;
+    fn strip_select_in_word(x: u64, k: usize) -> usize;
+}
+
+/// A handle, passed by value.
+#[derive(Clone, Copy, Debug)]
+pub struct Handle {
+    pub capacity: usize,
+    pub length: usize,
+}
+
+/// Words lent to the calls, between two guards. Each call asserts that it left all of them as they were.
+pub struct Lent {
+    memory: Vec<u64>,
+    copy: Vec<u64>,
+}
+
+const GUARD: [u64; 2] = [0x5bd1_e995_ffff_0000, 0xa5a5_a5a5_5a5a_5a5a];
+
+impl Lent {
+    pub fn new(words: &[u64]) -> Lent {
+        let memory = [&GUARD, words, &GUARD].concat();
+        let copy = memory.clone();
+        Lent { memory, copy }
+    }
+
+    pub fn count(&self) -> usize {
+        self.memory.len() - 2 * GUARD.len()
+    }
+
+    /// look(i)
+    pub fn get(&mut self, h: Handle, i: usize) -> u64 {
+        let (words, count) = self.lend();
+        // SAFETY: `words` points to `count` words, which live through the call.
+        let answer = unsafe { strip_get(h.capacity, h.length, words, count, i) };
+        self.unchanged();
+        answer
+    }
+
+    /// next(v, i)
+    pub fn successor(&mut self, h: Handle, v: u64, i: usize) -> u64 {
+        let (words, count) = self.lend();
+        // SAFETY: as in `get`.
+        let answer = unsafe { strip_successor(h.capacity, h.length, words, count, v, i) };
+        self.unchanged();
+        answer
+    }
+
+    /// prior(v, i)
+    pub fn predecessor(&mut self, h: Handle, v: u64, i: usize) -> u64 {
+        let (words, count) = self.lend();
+        // SAFETY: as in `get`.
+        let answer = unsafe { strip_predecessor(h.capacity, h.length, words, count, v, i) };
+        self.unchanged();
+        answer
+    }
+
+    // Through a mutable pointer, so that the compiler takes no word to be unchanged without looking.
+    fn lend(&mut self) -> (*const u64, usize) {
+        let count = self.count();
+        (self.memory[GUARD.len()..].as_mut_ptr().cast_const(), count)
+    }
+
+    fn unchanged(&self) {
+        assert!(self.memory == self.copy, "a lent word changed");
+    }
+}
+
+/// The position of the k-th one of a word, or 64.
+pub fn select_in_word(x: u64, k: usize) -> usize {
+    // SAFETY: the call takes numbers only.
+    unsafe { strip_select_in_word(x, k) }
+}

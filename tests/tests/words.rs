@@ -1,0 +1,349 @@
+//! look, next, prior and the word select, against the plain model and against answers worked out by hand.
+use strip_tests::model;
+use strip_tests::random::Random;
+use strip_tests::{select_in_word, Handle, Lent};
+
+const LARGEST: usize = 134_217_728;
+const FAR: [usize; 4] = [1 << 32, 1 << 63, usize::MAX - 511, usize::MAX];
+const VALUES: [u64; 5] = [0, 1, 2, 1 << 32, u64::MAX];
+
+/// A strip with what lies past its length, its words, and the handle under which it is read.
+struct Strip {
+    handle: Handle,
+    bits: Vec<bool>,
+    lent: Lent,
+}
+
+impl Strip {
+    fn new(length: usize, bits: Vec<bool>) -> Strip {
+        let handle = Handle { capacity: bits.len(), length };
+        let lent = Lent::new(&model::words_of(&bits));
+        Strip { handle, bits, lent }
+    }
+
+    /// `text` at the start, zeros past it.
+    fn from_text(capacity: usize, text: &str) -> Strip {
+        let mut bits: Vec<bool> = text.chars().map(|c| c == '1').collect();
+        let length = bits.len();
+        bits.resize(capacity, false);
+        Strip::new(length, bits)
+    }
+
+    fn get(&mut self, i: usize) -> u64 {
+        self.lent.get(self.handle, i)
+    }
+
+    fn successor(&mut self, v: u64, i: usize) -> u64 {
+        self.lent.successor(self.handle, v, i)
+    }
+
+    fn predecessor(&mut self, v: u64, i: usize) -> u64 {
+        self.lent.predecessor(self.handle, v, i)
+    }
+
+    /// Compares look at i, and next and prior of v at i, with the model.
+    fn compare(&mut self, v: u64, i: usize) {
+        let (h, count) = (self.handle, self.lent.count());
+        let looked = model::coded(model::get(h, count, &self.bits, i));
+        assert_eq!(self.get(i), looked, "look({i}) under {h:?}, {count} words");
+        let next = model::coded(model::successor(h, count, &self.bits, v, i));
+        assert_eq!(self.successor(v, i), next, "next({v}, {i}) under {h:?}, {count} words");
+        let prior = model::coded(model::predecessor(h, count, &self.bits, v, i));
+        assert_eq!(self.predecessor(v, i), prior, "prior({v}, {i}) under {h:?}, {count} words");
+    }
+}
+
+fn refused(number: u64) -> u64 {
+    (1 << 32) + number
+}
+
+/// Positions at which a strip is read: around 0, the ends of words and blocks, the length and the capacity; far past;
+/// some at random.
+fn positions(random: &mut Random, h: Handle, at_random: usize) -> Vec<usize> {
+    let mut list = FAR.to_vec();
+    for edge in [0, 64, 512, h.length / 64 * 64, h.length, h.capacity] {
+        list.extend([edge.saturating_sub(2), edge.saturating_sub(1), edge, edge + 1]);
+    }
+    list.extend((0..at_random).map(|_| random.below(h.length + 2)));
+    list
+}
+
+#[test]
+fn strip_a() {
+    let mut a = Strip::from_text(512, "01101101010101110");
+    for (i, bit) in [0, 1, 1, 0, 1, 1, 0, 1, 0, 1, 0, 1, 0, 1, 1, 1, 0].into_iter().enumerate() {
+        assert_eq!(a.get(i), bit);
+    }
+    assert_eq!(a.get(17), refused(4));
+    // next(v, i)
+    for (v, i, p) in [(1, 0, 1), (1, 1, 1), (1, 3, 4), (1, 6, 7), (1, 8, 9), (1, 12, 13), (1, 15, 15)] {
+        assert_eq!(a.successor(v, i), p);
+    }
+    for (v, i, p) in [(0, 0, 0), (0, 1, 3), (0, 4, 6), (0, 7, 8), (0, 13, 16), (0, 16, 16)] {
+        assert_eq!(a.successor(v, i), p);
+    }
+    for (v, i, n) in [(1, 16, 6), (1, 17, 6), (0, 17, 6), (1, 18, 4), (0, 18, 4), (2, 0, 8), (2, 18, 8)] {
+        assert_eq!(a.successor(v, i), refused(n));
+    }
+    // prior(v, i)
+    for (v, i, p) in [(1, 17, 15), (1, 16, 15), (1, 15, 14), (1, 13, 11), (1, 9, 7), (1, 4, 2), (1, 2, 1)] {
+        assert_eq!(a.predecessor(v, i), p);
+    }
+    for (v, i, p) in [(0, 17, 16), (0, 16, 12), (0, 13, 12), (0, 8, 6), (0, 6, 3), (0, 3, 0), (0, 1, 0)] {
+        assert_eq!(a.predecessor(v, i), p);
+    }
+    for (v, i, n) in [(1, 1, 6), (1, 0, 6), (0, 0, 6), (1, 18, 4), (0, 18, 4), (2, 0, 8), (2, 18, 8)] {
+        assert_eq!(a.predecessor(v, i), refused(n));
+    }
+    // A's ones, by the word select
+    for (k, p) in [1, 2, 4, 5, 7, 9, 11, 13, 14, 15, 64].into_iter().enumerate() {
+        assert_eq!(select_in_word(0xeab6, k), p);
+    }
+}
+
+#[test]
+fn empty_strip() {
+    let mut empty = Strip::new(0, vec![true; 512]);
+    assert_eq!(empty.get(0), refused(4));
+    for v in [0, 1] {
+        assert_eq!(empty.successor(v, 0), refused(6));
+        assert_eq!(empty.predecessor(v, 0), refused(6));
+        assert_eq!(empty.successor(v, 1), refused(4));
+        assert_eq!(empty.predecessor(v, 1), refused(4));
+    }
+}
+
+/// Every length and density, with zeros, ones or anything past the length.
+#[test]
+fn strips() {
+    let mut random = Random::new(1);
+    for capacity in [512, 1024, 4096, 32_768, 33_280] {
+        let mut lengths = vec![0, 1, 63, 64, 65, 511, 512, capacity - 1, capacity];
+        lengths.extend((0..12).map(|_| random.below(capacity)));
+        for length in lengths {
+            for share in [0, 1, 20, 500, 980, 1000] {
+                for past in [0, 500, 1000] {
+                    let mut bits = random.bits(length, share);
+                    bits.extend(random.bits(capacity - length, past));
+                    let mut strip = Strip::new(length, bits);
+                    for i in positions(&mut random, strip.handle, 30) {
+                        for v in VALUES {
+                            strip.compare(v, i);
+                        }
+                    }
+                }
+            }
+        }
+    }
+}
+
+/// Every position of small strips.
+#[test]
+fn every_position() {
+    let mut random = Random::new(2);
+    for (capacity, length) in [(512, 0), (512, 1), (512, 65), (512, 512), (1024, 300), (1024, 1023), (1536, 1472)] {
+        for share in [3, 100, 500, 900, 997] {
+            let mut strip = Strip::new(length, random.bits(capacity, share));
+            for i in 0..capacity + 2 {
+                for v in [0, 1] {
+                    strip.compare(v, i);
+                }
+            }
+        }
+    }
+}
+
+/// One stroke apart from all others, at each position: what next and prior answer around it.
+#[test]
+fn single_stroke() {
+    let capacity = 1024;
+    for v in [0, 1] {
+        for p in 0..capacity {
+            let mut bits = vec![v == 0; capacity];
+            bits[p] = v == 1;
+            let mut strip = Strip::new(capacity, bits);
+            let at = p as u64;
+            assert_eq!(strip.get(p), v);
+            for i in [0, p / 64 * 64, p] {
+                assert_eq!(strip.successor(v, i), at);
+            }
+            for i in [p + 1, capacity] {
+                assert_eq!(strip.successor(v, i), refused(6));
+                assert_eq!(strip.predecessor(v, i), at);
+            }
+            for i in [0, p] {
+                assert_eq!(strip.predecessor(v, i), refused(6));
+            }
+            // past the length it is not there
+            strip.handle.length = p;
+            assert_eq!(strip.get(p), refused(4));
+            assert_eq!(strip.successor(v, 0), refused(6));
+            assert_eq!(strip.predecessor(v, p), refused(6));
+        }
+    }
+}
+
+#[test]
+fn large_strip() {
+    let mut random = Random::new(3);
+    let capacity = (1 << 21) + 512;
+    for length in [capacity, 1 << 21, (1 << 21) - 63, random.below(capacity)] {
+        for share in [0, 1, 500, 1000] {
+            let mut strip = Strip::new(length, random.bits(capacity, share));
+            for i in positions(&mut random, strip.handle, 10) {
+                for v in [0, 1, 2] {
+                    strip.compare(v, i);
+                }
+            }
+        }
+    }
+}
+
+#[test]
+fn largest_strip() {
+    let mut bits = vec![false; LARGEST];
+    for p in [77, LARGEST / 2, LARGEST - 2] {
+        bits[p] = true;
+    }
+    let mut strip = Strip::new(LARGEST, bits);
+    for i in [0, 77, 78, LARGEST / 2, LARGEST / 2 + 1, LARGEST - 1, LARGEST, LARGEST + 1] {
+        strip.compare(1, i);
+    }
+    assert_eq!(strip.successor(0, LARGEST - 2), LARGEST as u64 - 1);
+    assert_eq!(strip.successor(1, LARGEST - 1), refused(6));
+    assert_eq!(strip.predecessor(1, LARGEST - 2), LARGEST as u64 / 2);
+    strip.handle.length = LARGEST - 2;
+    assert_eq!(strip.successor(1, LARGEST / 2 + 1), refused(6));
+    assert_eq!(strip.get(LARGEST - 2), refused(4));
+}
+
+/// Asserts that all three calls refuse alike, wherever and for whatever v they are made.
+fn all_refuse(lent: &mut Lent, h: Handle, number: u64) {
+    for i in [0, 1, 511, h.length, h.length.wrapping_add(1)].into_iter().chain(FAR) {
+        assert_eq!(lent.get(h, i), refused(number), "look({i}) under {h:?}, {} words", lent.count());
+        for v in VALUES {
+            assert_eq!(lent.successor(h, v, i), refused(number), "next({v}, {i}) under {h:?}, {} words", lent.count());
+            assert_eq!(
+                lent.predecessor(h, v, i),
+                refused(number),
+                "prior({v}, {i}) under {h:?}, {} words",
+                lent.count()
+            );
+        }
+    }
+}
+
+#[test]
+fn bad_handles() {
+    let small = [0, 1, 64, 256, 511, 513, 768, 1023];
+    let large = [LARGEST - 256, LARGEST + 1, LARGEST + 512, 1 << 32, 1 << 63, usize::MAX - 511, usize::MAX];
+    for count in [0, 4, 7, 8, 9, 12, 16] {
+        let mut lent = Lent::new(&vec![u64::MAX; count]);
+        for capacity in small.into_iter().chain(large) {
+            for length in [0, 1, 512, capacity, usize::MAX] {
+                all_refuse(&mut lent, Handle { capacity, length }, 1);
+            }
+        }
+        for capacity in [512, 1024, LARGEST] {
+            for length in [capacity + 1, capacity + 512, 1 << 32, 1 << 63, usize::MAX] {
+                all_refuse(&mut lent, Handle { capacity, length }, 1);
+            }
+        }
+    }
+}
+
+#[test]
+fn wrong_word_counts() {
+    for capacity in [512, 1024, 4096, 33_280] {
+        for count in [0, 1, capacity / 64 - 1, capacity / 64 + 1, capacity / 32, capacity] {
+            let mut lent = Lent::new(&vec![u64::MAX; count]);
+            for length in [0, 1, capacity - 1, capacity] {
+                all_refuse(&mut lent, Handle { capacity, length }, 2);
+            }
+        }
+    }
+    let mut lent = Lent::new(&[u64::MAX; 8]);
+    all_refuse(&mut lent, Handle { capacity: LARGEST, length: 100 }, 2);
+}
+
+/// Every set of faults at once: the first in the order 1, 2, 8, 4, 6 is the answer.
+#[test]
+fn first_refusal_wins() {
+    for faults in 0..32 {
+        let has = |n: u32| faults / 2u32.pow(n) % 2 == 1;
+        let [handle, words, value, position, absent] = [has(0), has(1), has(2), has(3), has(4)];
+        let length = if handle { 1025 } else { 700 };
+        let h = Handle { capacity: 1024, length };
+        let mut lent = Lent::new(&vec![if absent { 0 } else { u64::MAX }; if words { 15 } else { 16 }]);
+        let v = if value { 2 } else { 1 };
+        let i = length + usize::from(position);
+        let first = [(handle, 1), (words, 2), (value, 8), (position, 4), (absent, 6)].into_iter().find(|(has, _)| *has);
+        let expected = |found: u64| first.map_or(found, |(_, number)| refused(number));
+        assert_eq!(lent.predecessor(h, v, i), expected(699));
+        // next at the length finds nothing, so it is asked one below where no position is to be refused
+        let i = if position { i } else { length - 1 };
+        assert_eq!(lent.successor(h, v, i), expected(699));
+        // look: 1, 2, 4
+        let first = [(handle, 1), (words, 2), (position, 4)].into_iter().find(|(has, _)| *has);
+        assert_eq!(lent.get(h, i), first.map_or(u64::from(!absent), |(_, number)| refused(number)));
+    }
+}
+
+fn compare_select(x: u64, k: usize) {
+    assert_eq!(select_in_word(x, k), model::select(&model::bits_of(x), k), "one {k} of {x:#x}");
+}
+
+/// Compares at each k from 0 to 70, and far past.
+fn compare_all_selects(x: u64) {
+    let bits = model::bits_of(x);
+    for k in (0..=70).chain([255, 256, 1 << 32, (1 << 32) + 1, 1 << 63, usize::MAX - 1, usize::MAX]) {
+        assert_eq!(select_in_word(x, k), model::select(&bits, k), "one {k} of {x:#x}");
+    }
+}
+
+#[test]
+fn select_every_byte_in_every_lane() {
+    for lane in 0..8 {
+        for byte in 0..256u64 {
+            let x = byte << (8 * lane);
+            compare_all_selects(x);
+            // with every other lane full
+            compare_all_selects(x | !(255 << (8 * lane)));
+        }
+    }
+}
+
+#[test]
+fn select_fixed_words() {
+    for p in 0..64 {
+        let x = 1 << p;
+        assert_eq!(select_in_word(x, 0), p);
+        assert_eq!(select_in_word(x, 1), 64);
+        compare_all_selects(x);
+        compare_all_selects(!x);
+        // the ones below p, and those from p on
+        compare_all_selects(x - 1);
+        compare_all_selects(!(x - 1));
+    }
+    for k in 0..64 {
+        assert_eq!(select_in_word(u64::MAX, k), k);
+    }
+    for k in [0, 1, 63, 64, 1 << 32, 1 << 63, usize::MAX] {
+        assert_eq!(select_in_word(0, k), 64);
+    }
+    for k in [64, 65, 256, 1 << 32, 1 << 63, usize::MAX] {
+        assert_eq!(select_in_word(u64::MAX, k), 64);
+    }
+}
+
+#[test]
+fn select_random_words() {
+    let mut random = Random::new(4);
+    for _ in 0..100_000 {
+        let (x, y, z) = (random.number(), random.number(), random.number());
+        compare_all_selects(x);
+        compare_all_selects(x & y & z);
+        compare_all_selects(x | y | z);
+        compare_select(x & y, random.below(70));
+    }
+}
