@@ -2,7 +2,7 @@
 ghost use mathlib.Core.Path.{_≡_};
 ghost use Rattle.words.specs.Refusals.{coded as codedOf};
 ghost use Rattle.words.specs.Handles.{handle as handleOf};
-ghost use Rattle.words.specs.Calls.{getAnswer, successorAnswer, predecessorAnswer};
+ghost use Rattle.words.specs.Calls.{getTold, successorTold, predecessorTold};
 ghost use Rattle.words.specs.Words.{selectIn};
 use words::handle::Handle;
 use words::refusal::coded;
@@ -14,7 +14,7 @@ use words::strip::successor;
 // look(i): the bit at position i.
 #[no_mangle]
 pub extern "C" fn strip_get(capacity: usize, length: usize, words: &[u64], i: usize) -> u64
-    ensures { λ r. ⌜ r ≡ codedOf (getAnswer (handleOf capacity length) (now (words .entry)) i) ⌝ }
+    ensures { λ r. ⌜ r ≡ codedOf (getTold (handleOf capacity length) (now (words .entry)) i) ⌝ }
 {
     coded(get(Handle::new(capacity, length), words, i))
 }
@@ -28,7 +28,7 @@ pub extern "C" fn strip_successor(
     v: u64,
     i: usize,
 ) -> u64
-    ensures { λ r. ⌜ r ≡ codedOf (successorAnswer (handleOf capacity length) (now (words .entry)) v i) ⌝ }
+    ensures { λ r. ⌜ r ≡ codedOf (successorTold (handleOf capacity length) (now (words .entry)) v i) ⌝ }
 {
     coded(successor(Handle::new(capacity, length), words, v, i))
 }
@@ -42,7 +42,7 @@ pub extern "C" fn strip_predecessor(
     v: u64,
     i: usize,
 ) -> u64
-    ensures { λ r. ⌜ r ≡ codedOf (predecessorAnswer (handleOf capacity length) (now (words .entry)) v i) ⌝ }
+    ensures { λ r. ⌜ r ≡ codedOf (predecessorTold (handleOf capacity length) (now (words .entry)) v i) ⌝ }
 {
     coded(predecessor(Handle::new(capacity, length), words, v, i))
 }
@@ -50,7 +50,7 @@ pub extern "C" fn strip_predecessor(
 // The position of the k-th one of a word, k from 0, or 64 where it has too few.
 #[no_mangle]
 pub extern "C" fn strip_select_in_word(x: u64, k: usize) -> usize
-    ensures { λ r. ⌜ r ≡ selectIn 64 x k ⌝ }
+    ensures { λ r. ⌜ r ≡ selectIn 64 x 1 k ⌝ }
 {
     select_in_word(x, k)
 }

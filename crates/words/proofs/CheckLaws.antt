@@ -2,6 +2,7 @@
 use mathlib.Core.Path.{_≡_, refl, sym, ap, _∙_}
 use mathlib.Core.Bool.{Bool, true, false, not, cond, _&&_}
 use mathlib.Core.List.{List, [], _∷_, _++_}
+use mathlib.Core.Option.{Option, some, none}
 use Prim.Native.Nat.{ℕ, _/_, _%_, _≤_, _<_}
 use native.Mathlib.Omega.{arith}
 use lib.Dec.{leb, ltb, eqb}
@@ -10,97 +11,102 @@ use Rattle.words.specs.declared.handle.Handle.{Handle}
 use Rattle.words.specs.declared.refusal.Refusal.{Refusal}
 use Rattle.words.specs.declared.refusal.Verdict.{Verdict}
 use Rattle.words.specs.declared.refusal.Verdict.the-variants.{Pass, Refuse}
-use Rattle.words.specs.Refusals.{Line, judge}
-use Rattle.words.specs.Handles.{good, allowed, wordsOf, strip}
-use Rattle.words.specs.Calls.{positionLines, valueLines, below, valued}
-
--- the first verdict, or the second where it passes
-abbrev pub andThen : Verdict → Verdict → Verdict
-andThen Pass w = w
-andThen (Refuse r) w = Refuse r
+use Rattle.words.specs.Strip.{orElse}
+use Rattle.words.specs.Refusals.{numberOf, Line, judge, verdictOf, unless}
+use Rattle.words.specs.Handles.{blockBits, mostBits, allowed, good, wordsOf, stripLines}
+use Rattle.words.specs.Calls.{valueLine, belowLine, withinLine, belowTable, valueTable}
+use Rattle.words.proofs.BoolLaws.{and-first, and-second, not-not}
 
 -- one table after another
-pub judge-append : (a b : List Line) → judge (a ++ b) ≡ andThen (judge a) (judge b)
+pub judge-append : (a b : List Line) → judge (a ++ b) ≡ orElse (judge a) (judge b)
 judge-append [] b = refl
-judge-append (l ∷ ls) b = go (l .holds) (judge-append ls b)
+judge-append (l ∷ ls) b = go (l .applies) (judge-append ls b)
   where
-    go : (t : Bool) → judge (ls ++ b) ≡ andThen (judge ls) (judge b)
-        → cond t (Refuse (l .refusal)) (judge (ls ++ b)) ≡ andThen (cond t (Refuse (l .refusal)) (judge ls)) (judge b)
+    go : (t : Bool) → judge (ls ++ b) ≡ orElse (judge ls) (judge b)
+        → cond t (some (l .number)) (judge (ls ++ b)) ≡ orElse (cond t (some (l .number)) (judge ls)) (judge b)
     go true h = refl
     go false h = h
 
 -- refused by the first table
-pub refused-first : (a b : List Line) (v : Verdict) (r : Refusal) → v ≡ judge a → v ≡ Refuse r → v ≡ judge (a ++ b)
+pub refused-first : (a b : List Line) (v : Verdict) (r : Refusal) → verdictOf v ≡ judge a → v ≡ Refuse r → verdictOf v ≡ judge (a ++ b)
 refused-first a b v r e d = rw (judge-append, ← e, d) refl
 
 -- passed by the first table: the second decides
-pub passed-first : (a b : List Line) (v : Verdict) → v ≡ judge a → v ≡ Pass → judge (a ++ b) ≡ judge b
+pub passed-first : (a b : List Line) (v : Verdict) → verdictOf v ≡ judge a → v ≡ Pass → judge (a ++ b) ≡ judge b
 passed-first a b v e d = rw (judge-append, ← e, d) refl
 
--- no line refuses
+-- a table by the verdict of a function that judged it
+pub judged-refuse : (t : List Line) (v : Verdict) (r : Refusal) → verdictOf v ≡ judge t → v ≡ Refuse r → judge t ≡ some (numberOf r)
+judged-refuse t v r e d = sym e ∙ ap verdictOf d
+
+pub judged-pass : (t : List Line) (v : Verdict) → verdictOf v ≡ judge t → v ≡ Pass → judge t ≡ none
+judged-pass t v e d = sym e ∙ ap verdictOf d
+
+-- what a call gives where its table refuses, and where it passes
+pub unless-refused : {A : Type 0} (t : List Line) (v : Verdict) (r : Refusal) (refuse : ℕ → A) (late : A) → verdictOf v ≡ judge t → v ≡ Refuse r
+    → refuse (numberOf r) ≡ unless (judge t) refuse late
+unless-refused t v r refuse late e d = ap (λ (o : Option ℕ). unless o refuse late) (sym (judged-refuse t v r e d))
+
+pub unless-passed : {A : Type 0} (t : List Line) (v : Verdict) (refuse : ℕ → A) (late : A) → verdictOf v ≡ judge t → v ≡ Pass
+    → late ≡ unless (judge t) refuse late
+unless-passed t v refuse late e d = ap (λ (o : Option ℕ). unless o refuse late) (sym (judged-pass t v e d))
+
+-- no line applies
 abbrev pub Passes : List Line → Type 0
 Passes [] = Unit {0}
-Passes (l ∷ ls) = (l .holds ≡ false) × Passes ls
+Passes (l ∷ ls) = (l .applies ≡ false) × Passes ls
 
-pub passes : (ls : List Line) → judge ls ≡ Pass → Passes ls
+pub passes : (ls : List Line) → judge ls ≡ none → Passes ls
 passes [] h = tt
-passes (l ∷ ls) h = go (l .holds) refl h (passes ls)
+passes (l ∷ ls) h = go (l .applies) refl h (passes ls)
   where
-    go : (t : Bool) → l .holds ≡ t → cond t (Refuse (l .refusal)) (judge ls) ≡ Pass → (judge ls ≡ Pass → Passes ls) → (l .holds ≡ false) × Passes ls
+    go : (t : Bool) → l .applies ≡ t → cond t (some (l .number)) (judge ls) ≡ none → (judge ls ≡ none → Passes ls) → (l .applies ≡ false) × Passes ls
     go true e p ih = let z : _≡_ {A = ℕ} 0 1 = cc in absurd (omega arith)
     go false e p ih = (e, ih p)
 
 -- both tables passed
-pub passed-both : (a b : List Line) → judge (a ++ b) ≡ Pass → (judge a ≡ Pass) × (judge b ≡ Pass)
+pub passed-both : (a b : List Line) → judge (a ++ b) ≡ none → (judge a ≡ none) × (judge b ≡ none)
 passed-both a b h = go (judge a) refl (sym (judge-append a b) ∙ h)
   where
-    go : (v : Verdict) → judge a ≡ v → andThen v (judge b) ≡ Pass → (judge a ≡ Pass) × (judge b ≡ Pass)
-    go Pass e p = (e, p)
-    go (Refuse r) e p = let z : _≡_ {A = ℕ} 0 1 = cc in absurd (omega arith)
+    go : (v : Option ℕ) → judge a ≡ v → orElse v (judge b) ≡ none → (judge a ≡ none) × (judge b ≡ none)
+    go none e p = (e, p)
+    go (some n) e p = let z : _≡_ {A = ℕ} 0 1 = cc in absurd (omega arith)
 
 -- what the checks shared by all strip calls leave
-pub record Checked (h : Handle) (words : ℕ) (right : Bool) : Type 0 where
-  pub step : h .capacity % 512 ≡ 0
-  pub least : 512 ≤ h .capacity
-  pub most : h .capacity ≤ 134217728
+pub record Checked (h : Handle) (words : ℕ) (counted : Bool) : Type 0 where
+  pub step : h .capacity % blockBits ≡ 0
+  pub least : blockBits ≤ h .capacity
+  pub most : h .capacity ≤ mostBits
   pub long : h .length ≤ h .capacity
-  pub count : words ≡ h .capacity / 64
-  pub counters : right ≡ true
+  pub count : words ≡ wordsOf (h .capacity)
+  pub counters : counted ≡ true
 
-not-not : (b : Bool) → not b ≡ false → b ≡ true
-not-not true h = refl
-not-not false h = sym h
-
-both-of : (a b : Bool) → (a && b) ≡ true → (a ≡ true) × (b ≡ true)
-both-of true b h = (refl, h)
-both-of false b h = let z : _≡_ {A = ℕ} 0 1 = cc in absurd (omega arith)
-
-pub checked : (h : Handle) (words : ℕ) (right : Bool) → judge (strip h words right) ≡ Pass → Checked h words right
-checked h words right p =
-    let w = passes (strip h words right) p in
-    let g = both-of (allowed (h .capacity)) (leb (h .length) (h .capacity)) (not-not _ (w .0)) in
-    let a = both-of (eqb (h .capacity % 512) 0) (leb 512 (h .capacity) && leb (h .capacity) 134217728) (g .0) in
-    let b = both-of (leb 512 (h .capacity)) (leb (h .capacity) 134217728) (a .1) in
+pub checked : (h : Handle) (words : ℕ) (counted : Bool) → judge (stripLines h words counted) ≡ none → Checked h words counted
+checked h words counted p =
+    let w = passes (stripLines h words counted) p in
+    let g : good h ≡ true = not-not (good h) (w .0) in
+    let a : allowed (h .capacity) ≡ true = and-first (allowed (h .capacity)) (leb (h .length) (h .capacity)) g in
+    let b = and-second (eqb (h .capacity % blockBits) 0) (leb blockBits (h .capacity) && leb (h .capacity) mostBits) a in
     record {
-      step = eqb-true _ _ (a .0);
-      least = leb-true _ _ (b .0);
-      most = leb-true _ _ (b .1);
-      long = leb-true _ _ (g .1);
+      step = eqb-true _ _ (and-first (eqb (h .capacity % blockBits) 0) (leb blockBits (h .capacity) && leb (h .capacity) mostBits) a);
+      least = leb-true _ _ (and-first (leb blockBits (h .capacity)) (leb (h .capacity) mostBits) b);
+      most = leb-true _ _ (and-second (leb blockBits (h .capacity)) (leb (h .capacity) mostBits) b);
+      long = leb-true _ _ (and-second (allowed (h .capacity)) (leb (h .length) (h .capacity)) g);
       count = eqb-true _ _ (not-not _ (w .1 .0));
       counters = not-not _ (w .1 .1 .0);
     }
 
 -- a position below the length
-pub checked-below : (h : Handle) (words : ℕ) (right : Bool) (i : ℕ) (w : Verdict) → w ≡ judge (below h words right i) → w ≡ Pass
-    → Checked h words right × (i < h .length)
-checked-below h words right i w e p =
-    let b = passed-both (strip h words right) (positionLines h i) (sym e ∙ p) in
-    (checked h words right (b .0), leb-false _ _ (passes (positionLines h i) (b .1) .0))
+pub checked-below : (h : Handle) (words : ℕ) (counted : Bool) (i : ℕ) → judge (belowTable h words counted i) ≡ none
+    → Checked h words counted × (i < h .length)
+checked-below h words counted i p =
+    let b = passed-both (stripLines h words counted) (belowLine h i ∷ []) p in
+    (checked h words counted (b .0), leb-false _ _ (passes (belowLine h i ∷ []) (b .1) .0))
 
 -- a value, and a position not above the length
-pub checked-valued : (h : Handle) (words : ℕ) (right : Bool) (v i : ℕ) (w : Verdict) → w ≡ judge (valued h words right v i) → w ≡ Pass
-    → Checked h words right × (v ≤ 1) × (i ≤ h .length)
-checked-valued h words right v i w e p =
-    let b = passed-both (strip h words right) (valueLines h v i) (sym e ∙ p) in
-    let l = passes (valueLines h v i) (b .1) in
-    (checked h words right (b .0), ltb-false _ _ (l .0), ltb-false _ _ (l .1 .0))
+pub checked-value : (h : Handle) (words : ℕ) (counted : Bool) (v i : ℕ) → judge (valueTable h words counted v i) ≡ none
+    → Checked h words counted × (v ≤ 1) × (i ≤ h .length)
+checked-value h words counted v i p =
+    let b = passed-both (stripLines h words counted) (valueLine v ∷ withinLine h i ∷ []) p in
+    let l = passes (valueLine v ∷ withinLine h i ∷ []) (b .1) in
+    (checked h words counted (b .0), ltb-false _ _ (l .0), ltb-false _ _ (l .1 .0))

@@ -12,6 +12,7 @@ use lib.Pow.{pow-pos, shr-lt, shr-shr, shr-mod, split, high, low}
 use lib.Bits.{bitAnd, and-zero-r, and-block, and-high}
 use Rattle.words.specs.Bits.{bit, digits, ones}
 use Rattle.words.specs.Words.{byteOf, onesInByte, Prefixes}
+use Rattle.words.specs.Working.{atMost}
 use Rattle.words.proofs.Sums.{ones-zero, ones-suc, ones-le}
 use Rattle.words.proofs.BitLaws.{bit-le}
 
@@ -146,12 +147,8 @@ prefix-law x r e j l =
 abbrev gap : ℕ → ℕ → ℕ → ℕ
 gap s k j = k + 128 - byteOf s j
 
--- 1 where lane j is at most k
-abbrev pub atMost : ℕ → ℕ → ℕ → ℕ
-atMost s k j = cond (leb (byteOf s j) k) 1 0
-
 -- a test is 0 or 1, so at most 8
-at-most-le : (s k j : ℕ) → atMost s k j ≤ 8
+at-most-le : (s k j : ℕ) → atMost (byteOf s) k j ≤ 8
 at-most-le s k j = go (leb (byteOf s j) k)
   where
     go : (b : Bool) → cond {A = ℕ} b 1 0 ≤ 8
@@ -194,19 +191,19 @@ module _ (s k : ℕ) (fits : s < 2 ^ 64) (small : k < 64) (lanes : (j : ℕ) →
       ∙ ap (λ (t : ℕ). digits (2 ^ 8) (gap s k) 8 + t) (sym (digits-of 8 8 s fits))
 
   -- the tests, each in the high bit of its lane
-  lane-tests : bitAnd (raised k - s) 0x8080_8080_8080_8080 ≡ digits (2 ^ 8) (λ j. atMost s k j * 2 ^ 7) 8
+  lane-tests : bitAnd (raised k - s) 0x8080_8080_8080_8080 ≡ digits (2 ^ 8) (λ j. atMost (byteOf s) k j * 2 ^ 7) 8
   lane-tests =
       let less : raised k - s ≡ digits (2 ^ 8) (gap s k) 8 = omega (arith, raised-split) in
-      let lane : (j : ℕ) → j < 8 → bitAnd (field 8 (digits (2 ^ 8) (gap s k) 8) j) 128 ≡ atMost s k j * 2 ^ 7 =
+      let lane : (j : ℕ) → j < 8 → bitAnd (field 8 (digits (2 ^ 8) (gap s k) 8) j) 128 ≡ atMost (byteOf s) k j * 2 ^ 7 =
       (λ j l.
       ap (λ (t : ℕ). bitAnd t 128) (digits-at 8 (gap s k) 8 j (λ i q. omega arith) l) ∙ high-and (byteOf s j) k (lanes j l) small) in
       ap₂ bitAnd less eighties
       ∙ digits-and 8 (digits (2 ^ 8) (gap s k) 8) (λ _. 128) 8 (λ i l. lit< tt)
-      ∙ digits-ext (2 ^ 8) (λ j. bitAnd (field 8 (digits (2 ^ 8) (gap s k) 8) j) 128) (λ j. atMost s k j * 2 ^ 7) 8 lane
+      ∙ digits-ext (2 ^ 8) (λ j. bitAnd (field 8 (digits (2 ^ 8) (gap s k) 8) j) 128) (λ j. atMost (byteOf s) k j * 2 ^ 7) 8 lane
 
   -- their sum
-  pub at-most-law : (r : ℕ) → r ≡ (bitAnd (raised k - s) 0x8080_8080_8080_8080 / 2 ^ 7 * 0x0101_0101_0101_0101) % 2 ^ 64 → r / 2 ^ 56 ≡ ones (atMost s k) 8
+  pub at-most-law : (r : ℕ) → r ≡ (bitAnd (raised k - s) 0x8080_8080_8080_8080 / 2 ^ 7 * 0x0101_0101_0101_0101) % 2 ^ 64 → r / 2 ^ 56 ≡ ones (atMost (byteOf s) k) 8
   at-most-law r e =
-      let shifted : bitAnd (raised k - s) 0x8080_8080_8080_8080 / 2 ^ 7 ≡ digits (2 ^ 8) (atMost s k) 8 =
-      ap (λ (t : ℕ). t / 2 ^ 7) (lane-tests ∙ digits-mul (2 ^ 8) (2 ^ 7) (atMost s k) 8) ∙ mul-div-cancel (digits (2 ^ 8) (atMost s k) 8) (pow-pos 7) in
-      ap (λ (t : ℕ). t / 2 ^ 56) (e ∙ ap (λ (t : ℕ). (t * 0x0101_0101_0101_0101) % 2 ^ 64) shifted) ∙ top-lane (atMost s k) (at-most-le s k)
+      let shifted : bitAnd (raised k - s) 0x8080_8080_8080_8080 / 2 ^ 7 ≡ digits (2 ^ 8) (atMost (byteOf s) k) 8 =
+      ap (λ (t : ℕ). t / 2 ^ 7) (lane-tests ∙ digits-mul (2 ^ 8) (2 ^ 7) (atMost (byteOf s) k) 8) ∙ mul-div-cancel (digits (2 ^ 8) (atMost (byteOf s) k) 8) (pow-pos 7) in
+      ap (λ (t : ℕ). t / 2 ^ 56) (e ∙ ap (λ (t : ℕ). (t * 0x0101_0101_0101_0101) % 2 ^ 64) shifted) ∙ top-lane (atMost (byteOf s) k) (at-most-le s k)

@@ -1,3 +1,4 @@
+pub mod BoolLaws
 pub mod Sums
 pub mod BitLaws
 mod Wrapping

@@ -1,4 +1,4 @@
--- The nearest position that holds a value: `Onward` and `Back` against the definitions of next and prior, in one word, and from word to word.
+-- The nearest position that holds a value: `FirstFrom` and `LastBefore` against the definitions of next and prior, in one word, and from word to word.
 -- Assumes nothing.
 use mathlib.Core.Path.{_≡_, refl, sym, ap, _∙_, subst}
 use mathlib.Core.Bool.{Bool, true, false, _&&_}
@@ -17,12 +17,13 @@ use lib.Pow.{pow-pos, shr-lt}
 use borrow.Author.Tests.{eqb-true, eq-eqb, leb-true, le-leb}
 use Rattle.words.specs.Bits.{bit, bitAt, ones}
 use Rattle.words.specs.Strip.{holds, rankOf, successorOf, predecessorOf}
-use Rattle.words.specs.Words.{Written, Matched, selectIn}
-use Rattle.words.specs.Scans.{Onward, Back}
+use Rattle.words.specs.Words.{selectIn}
+use Rattle.words.specs.Working.{Written, Matched, FirstFrom, LastBefore}
+use Rattle.words.proofs.BoolLaws.{and-intro, and-first, and-second}
 use Rattle.words.proofs.Sums.{lt-or, ones-suc, ones-mono, rank-one}
 use Rattle.words.proofs.BitLaws.{bit-le}
 use Rattle.words.proofs.WordLaws.{holds-yes, holds-no, word-bit}
-use Rattle.words.proofs.SearchLaws.{and-intro, and-first, and-second, least-at, least-none, greatest-at, greatest-none, Place, placeIn-place, rank-ones}
+use Rattle.words.proofs.SearchLaws.{least-at, least-none, greatest-at, greatest-none, Place, placeIn-place, rank-ones}
 
 -- none of the positions from i to e - 1 holds v
 abbrev pub Clear : (ℕ → ℕ) → ℕ → ℕ → ℕ → Type 0
@@ -42,25 +43,25 @@ none-passes f v i e h q l =
     (λ t. h q (leb-true i q (and-first (leb i q) (eqb (f q) v) t)) l (eqb-true (f q) v (and-second (leb i q) (eqb (f q) v) t)))
 
 -- an answer below n is what next gives
-pub onward-some : (f : ℕ → ℕ) (n v i r : ℕ) → Onward f n v i r → r < n → successorOf f n v i ≡ some r
-onward-some f n v i r h l =
+pub first-from-some : (f : ℕ → ℕ) (n v i r : ℕ) → FirstFrom f n v i r → r < n → successorOf f n v i ≡ some r
+first-from-some f n v i r h l =
     least-at (λ p. leb i p && eqb (f p) v) n r
     (record { below = l; passes = and-intro (le-leb i r (h .start)) (eq-eqb (f r) v (h .hit l)); first = none-passes f v i r (h .clear) })
 
 -- the answer n is next's none
-pub onward-none : (f : ℕ → ℕ) (n v i r : ℕ) → Onward f n v i r → r ≡ n → successorOf f n v i ≡ none
-onward-none f n v i r h e =
+pub first-from-none : (f : ℕ → ℕ) (n v i r : ℕ) → FirstFrom f n v i r → r ≡ n → successorOf f n v i ≡ none
+first-from-none f n v i r h e =
     least-none (λ p. leb i p && eqb (f p) v) n (λ q l. none-passes f v i r (h .clear) q (subst (λ (m : ℕ). q < m) (sym e) l))
 
 -- an answer above 0 is one past what prior gives
-pub back-some : (f : ℕ → ℕ) (v i r q : ℕ) → Back f v i r → r ≡ suc q → predecessorOf f v i ≡ some q
-back-some f v i r q h e =
+pub last-before-some : (f : ℕ → ℕ) (v i r q : ℕ) → LastBefore f v i r → r ≡ suc q → predecessorOf f v i ≡ some q
+last-before-some f v i r q h e =
     greatest-at (λ p. eqb (f p) v) i q (omega (arith, h .within)) (eq-eqb (f q) v (h .hit q e))
     (λ p a l. refuted (eqb (f p) v) (λ t. h .clear p (omega arith) l (eqb-true (f p) v t)))
 
 -- the answer 0 is prior's none
-pub back-none : (f : ℕ → ℕ) (v i r : ℕ) → Back f v i r → r ≡ 0 → predecessorOf f v i ≡ none
-back-none f v i r h e =
+pub last-before-none : (f : ℕ → ℕ) (v i r : ℕ) → LastBefore f v i r → r ≡ 0 → predecessorOf f v i ≡ none
+last-before-none f v i r h e =
     greatest-none (λ p. eqb (f p) v) i (λ p l. refuted (eqb (f p) v) (λ t. h .clear p (omega arith) l (eqb-true (f p) v t)))
 
 -- ---- from part to whole
@@ -74,12 +75,12 @@ clear-join f v i m e a b p l u h = go (lt-or p m)
     go (inr q) = b p q u h
 
 -- the search from m on, where there is no v from i to m - 1
-pub onward-from : (f : ℕ → ℕ) (n v i m r : ℕ) → i ≤ m → Clear f v i m → Onward f n v m r → Onward f n v i r
+pub onward-from : (f : ℕ → ℕ) (n v i m r : ℕ) → i ≤ m → Clear f v i m → FirstFrom f n v m r → FirstFrom f n v i r
 onward-from f n v i m r l h o =
     record { start = omega (arith, o .start); within = o .within; clear = clear-join f v i m r h (o .clear); hit = o .hit }
 
 -- the search below n, then below m: the smaller of the answer and m, where the answer is a hit or n reaches m
-pub onward-upto : (f : ℕ → ℕ) (n v i a m r : ℕ) → i ≤ m → Onward f n v i a → (a < n) ⊎ (m ≤ n) → r ≤ a → r ≤ m → (r < m → r ≡ a) → Onward f m v i r
+pub onward-upto : (f : ℕ → ℕ) (n v i a m r : ℕ) → i ≤ m → FirstFrom f n v i a → (a < n) ⊎ (m ≤ n) → r ≤ a → r ≤ m → (r < m → r ≡ a) → FirstFrom f m v i r
 onward-upto f n v i a m r l o w ra rm e =
     record {
       start = start (lt-or r m);
@@ -97,21 +98,21 @@ onward-upto f n v i a m r l o w ra rm e =
     below u (inr k) = omega (arith, e u)
 
 -- the search below m, where there is no v from m to i - 1
-pub back-from : (f : ℕ → ℕ) (v i m r : ℕ) → m ≤ i → Clear f v m i → Back f v m r → Back f v i r
+pub back-from : (f : ℕ → ℕ) (v i m r : ℕ) → m ≤ i → Clear f v m i → LastBefore f v m r → LastBefore f v i r
 back-from f v i m r l h b = record { within = omega (arith, b .within); clear = clear-join f v r m i (b .clear) h; hit = b .hit }
 
 -- no v from i on
-pub onward-end : (f : ℕ → ℕ) (n v i : ℕ) → i ≤ n → Clear f v i n → Onward f n v i n
+pub onward-end : (f : ℕ → ℕ) (n v i : ℕ) → i ≤ n → Clear f v i n → FirstFrom f n v i n
 onward-end f n v i l h = record { start = l; within = le-refl n; clear = h; hit = (λ u. absurd (omega arith)) }
 
 -- no v below i
-pub back-end : (f : ℕ → ℕ) (v i : ℕ) → Clear f v 0 i → Back f v i 0
+pub back-end : (f : ℕ → ℕ) (v i : ℕ) → Clear f v 0 i → LastBefore f v i 0
 back-end f v i h = record { within = zero-le; clear = h; hit = (λ q e. absurd (omega arith)) }
 
 -- ---- one word
 
 -- the first of v
-pub place-first : (f : ℕ → ℕ) (n v r : ℕ) → Place f n v 0 r → Onward f n v 0 r
+pub place-first : (f : ℕ → ℕ) (n v r : ℕ) → Place f n v 0 r → FirstFrom f n v 0 r
 place-first f n v r h =
     record {
       start = zero-le;
@@ -121,7 +122,7 @@ place-first f n v r h =
     }
 
 -- the last of v
-pub place-last : (f : ℕ → ℕ) (n v k r : ℕ) → Place f n v k r → rankOf f v n ≤ k + 1 → Back f v n (r + 1)
+pub place-last : (f : ℕ → ℕ) (n v k r : ℕ) → Place f n v k r → rankOf f v n ≤ k + 1 → LastBefore f v n (r + 1)
 place-last f n v k r h t =
     record {
       within = omega (arith, h .below);
@@ -157,7 +158,7 @@ some-one x h n = go (lt-or 0 (ones (bit x) 64))
     go (inr l) = absurd (n (zero-bits 64 x h (λ p u. omega (arith, ones-suc (bit x) p, ones-mono (bit x) u))))
 
 -- select in a word, below the number of its ones
-pub one-place : (x k r : ℕ) → k < ones (bit x) 64 → r ≡ selectIn 64 x k → Place (bit x) 64 1 k r
+pub one-place : (x k r : ℕ) → k < ones (bit x) 64 → r ≡ selectIn 64 x 1 k → Place (bit x) 64 1 k r
 one-place x k r l e =
     subst (λ (p : ℕ). Place (bit x) 64 1 k p) (sym e) (placeIn-place (bit x) 64 1 k (omega (arith, rank-ones (bit x) 64 (bit-le x))))
 
@@ -252,7 +253,7 @@ module _ (f : ℕ → ℕ) (v a i e x : ℕ) (m : Marked f v a i e x) where
       omega (arith, marked-at p l u h)
 
   -- its lowest one: the first v
-  pub marked-first : (r : ℕ) → r < 64 → Onward (bit x) 64 1 0 r → Onward f e v i (a + r)
+  pub marked-first : (r : ℕ) → r < 64 → FirstFrom (bit x) 64 1 0 r → FirstFrom f e v i (a + r)
   marked-first r l o =
       let under : a + r < e = m .below r l (o .hit l) in
       record {
@@ -263,7 +264,7 @@ module _ (f : ℕ → ℕ) (v a i e x : ℕ) (m : Marked f v a i e x) where
       }
 
   -- one past its highest one: one past the last v
-  pub marked-last : (r : ℕ) → 0 < r → Back (bit x) 1 64 r → Back f v e (a + r)
+  pub marked-last : (r : ℕ) → 0 < r → LastBefore (bit x) 1 64 r → LastBefore f v e (a + r)
   marked-last zero l b = absurd (omega arith)
   marked-last (suc q) l b =
       let one : bit x q ≡ 1 = b .hit q refl in

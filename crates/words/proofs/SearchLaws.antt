@@ -13,27 +13,9 @@ use borrow.Author.Tests.{eqb-true, eqb-false, leb-true, leb-false, eq-eqb, ne-eq
 use Rattle.words.specs.Bits.{ones}
 use Rattle.words.specs.Strip.{orElse, least, greatest, holds, rankOf, selectOf, successorOf, predecessorOf}
 use Rattle.words.specs.Words.{placeIn}
+use Rattle.words.proofs.BoolLaws.{bool-or, true-false, and-intro, and-first, and-second}
 use Rattle.words.proofs.Sums.{lt-or, ones-suc, ones-zero, ones-ext, ones-mono, rank-one, part-ones}
-use Rattle.words.proofs.WordLaws.{holds-yes, holds-no, holds-le, holds-one}
-
--- true, or false
-pub bool-or : (b : Bool) → (b ≡ true) ⊎ (b ≡ false)
-bool-or true = inl refl
-bool-or false = inr refl
-
-pub true-false : {b : Bool} → b ≡ true → b ≡ false → ⊥
-true-false p q = mathlib.Core.Bool.true≢false (sym p ∙ q)
-
-pub and-intro : {a b : Bool} → a ≡ true → b ≡ true → (a && b) ≡ true
-and-intro {a} {b} p q = rw (p, q)
-
-pub and-first : (a b : Bool) → (a && b) ≡ true → a ≡ true
-and-first true b h = refl
-and-first false b h = h
-
-pub and-second : (a b : Bool) → (a && b) ≡ true → b ≡ true
-and-second true b h = h
-and-second false b h = absurd (mathlib.Core.Bool.false≢true h)
+use Rattle.words.proofs.WordLaws.{holds-yes, holds-no, holds-le, holds-zero, holds-one}
 
 -- ---- the smallest position that passes a test
 
@@ -235,3 +217,25 @@ place-in f g a w n v k under e part top eu l h =
 -- of bits, the rank of 1 is the ones
 pub rank-ones : (f : ℕ → ℕ) (n : ℕ) → ((p : ℕ) → f p ≤ 1) → rankOf f 1 n ≡ ones f n
 rank-ones f n h = ones-ext (holds f 1) f n (λ p l. holds-one f p (h p))
+
+-- cells f and g of which the same positions hold v and w: the same answer
+pub select-ext : (f g : ℕ → ℕ) (n v w k : ℕ) → ((p : ℕ) → p < n → holds f v p ≡ holds g w p) → selectOf f n v k ≡ selectOf g n w k
+select-ext f g n v w k h =
+    least-ext (λ p. eqb (f p) v && eqb (rankOf f v p) k) (λ p. eqb (g p) w && eqb (rankOf g w p) k) n (λ p l.
+    ap₂ (λ (a b : Bool). a && b) (test-ext (f p) v (g p) w (h p l))
+    (ap (λ (m : ℕ). eqb m k) (ones-ext (holds f v) (holds g w) p (λ q r. h q (omega arith)))))
+  where
+    test-ext : (a b c d : ℕ) → _≡_ {A = ℕ} (cond (eqb a b) 1 0) (cond (eqb c d) 1 0) → eqb a b ≡ eqb c d
+    test-ext a b c d = go (eqb a b) (eqb c d)
+      where
+        go : (s t : Bool) → _≡_ {A = ℕ} (cond s 1 0) (cond t 1 0) → s ≡ t
+        go true true e = refl
+        go true false e = absurd (omega arith)
+        go false true e = absurd (omega arith)
+        go false false e = refl
+
+-- every cell holds one of the two values of a bit: the zeros and the ones before i are i
+pub rank-both : (f : ℕ → ℕ) (i : ℕ) → ((p : ℕ) → f p ≤ 1) → rankOf f 0 i + rankOf f 1 i ≡ i
+unfolding ones
+rank-both f zero h = refl
+rank-both f (suc i) h = omega (arith, rank-both f i h, holds-zero f i (h i), holds-one f i (h i), h i)

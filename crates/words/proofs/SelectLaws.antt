@@ -10,11 +10,13 @@ use lib.Dec.{leb, lit≤}
 use lib.Pow as W
 use borrow.Author.Tests.{le-leb, lt-leb}
 use Rattle.words.specs.Bits.{bit, ones}
-use Rattle.words.specs.Strip.{rankOf, selectOf}
+use Rattle.words.specs.Strip.{holds, rankOf, selectOf}
 use Rattle.words.specs.Words.{byteOf, onesInByte, Prefixes, placeIn, selectIn}
+use Rattle.words.specs.Working.{Matched, atMost}
 use Rattle.words.proofs.Sums.{lt-or, ones-zero, ones-suc, ones-ext, ones-le, ones-mono}
+use Rattle.words.proofs.WordLaws.{holds-one}
 use Rattle.words.proofs.BitLaws.{bit-le, byte-bit, byte-ones}
-use Rattle.words.proofs.SearchLaws.{Place, place-in, placeIn-at, placeIn-none, placeIn-place, rank-ones}
+use Rattle.words.proofs.SearchLaws.{Place, select-ext, place-in, placeIn-at, placeIn-none, placeIn-place, rank-ones}
 
 -- the ones of the first j bytes
 pub bytes-ones : (x j : ℕ) → ones (onesInByte x) j ≡ ones (bit x) (8 * j)
@@ -26,9 +28,6 @@ bytes-ones x (suc j) =
     ∙ sym (ap (ones (bit x)) e ∙ byte-ones x (8 * j) 8 (lit≤ tt))
 
 -- ---- of rising numbers, how many are at most k: those before the first that is above it
-abbrev pub atMost : (ℕ → ℕ) → ℕ → ℕ → ℕ
-atMost P k j = cond (leb (P j) k) 1 0
-
 pub record Reached (P : ℕ → ℕ) (k n c : ℕ) : Type 0 where
   pub within : c ≤ n
   pub low : (j : ℕ) → j < c → P j ≤ k
@@ -109,12 +108,12 @@ under-is x s j h l =
         ∙ ap (ones (bit x)) m2
 
 -- ---- the answer
-pub few : (x k : ℕ) → ones (bit x) 64 ≤ k → selectIn 64 x k ≡ 64
+pub few : (x k : ℕ) → ones (bit x) 64 ≤ k → selectIn 64 x 1 k ≡ 64
 few x k h = placeIn-none (bit x) 64 1 k (omega (arith, rank-ones (bit x) 64 (bit-le x)))
 
 -- byte j has the k-th one at the place e
-pub found : (x k j under e : ℕ) → j < 8 → under ≡ ones (bit x) (8 * j) → under ≤ k → k < upto x j → e ≡ selectIn 8 (byteOf x j) (k - under)
-    → (selectIn 64 x k ≡ 8 * j + e) × (e < 8)
+pub found : (x k j under e : ℕ) → j < 8 → under ≡ ones (bit x) (8 * j) → under ≤ k → k < upto x j → e ≡ selectIn 8 (byteOf x j) 1 (k - under)
+    → (selectIn 64 x 1 k ≡ 8 * j + e) × (e < 8)
 found x k j under e l eu lu h ee =
     let b : ℕ = byteOf x j in
     let some : k - under < rankOf (bit b) 1 8 = omega (arith, rank-ones (bit b) 8 (bit-le b), byte-ones x (8 * j) 8 (le-refl 8)) in
@@ -122,3 +121,11 @@ found x k j under e l eu lu h ee =
     let q : Place (bit x) 64 1 k (8 * j + e) =
     place-in (bit x) (bit b) (8 * j) 8 64 1 k under e (byte-bit x (8 * j)) (omega arith) (eu ∙ sym (rank-ones (bit x) (8 * j) (bit-le x))) lu p in
     (placeIn-at (bit x) 64 1 k (8 * j + e) q, p .below)
+
+-- of the word whose ones are the bits that equal v, the ones are the v, and select of 1 is select of v
+pub matched-rank : (x v r i : ℕ) → Matched x v r → i ≤ 64 → ones (bit r) i ≡ rankOf (bit x) v i
+matched-rank x v r i m h = ones-ext (bit r) (holds (bit x) v) i (λ p l. m p (omega arith))
+
+pub matched-select : (x v r k : ℕ) → Matched x v r → selectIn 64 r 1 k ≡ selectIn 64 x v k
+matched-select x v r k m =
+    ap (placeIn 64) (select-ext (bit r) (bit x) 64 1 v k (λ p l. holds-one (bit r) p (bit-le r p) ∙ m p l))

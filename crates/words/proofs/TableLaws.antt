@@ -1,18 +1,21 @@
 -- The table of select in a byte: its numbers, computed from their rule, and the rule as one test over all bytes and ranks, which antt computes.
 -- Assumes nothing.
-use mathlib.Core.Path.{_≡_, sym, ap, _∙_}
+use mathlib.Core.Path.{_≡_, refl, sym, ap, _∙_}
 use mathlib.Core.List.{List}
 use mathlib.Core.Bool.{Bool, true, false, _&&_}
 use Prim.Native.Nat.{ℕ, zero, suc, _+_, _*_, _/_, _%_, _≤_, _<_, zero-le}
 use native.Mathlib.Nat.{le-of-suc-le-suc, not-suc-le-zero}
 use native.Mathlib.Omega.{arith}
 use lib.Arith.{lt-of-le-ne}
-use lib.Dec.{T, eqb, eqb→eq}
+use lib.Dec.{eqb}
+use borrow.Author.Tests.{eqb-true}
+use Rattle.words.proofs.BoolLaws.{and-first, and-second}
 use lib.ListN.{getD, take, drop}
 use lib.Seq.{getD-take, getD-drop}
 use Rattle.words.specs.Bits.{ones, digits, listOf}
 use Rattle.words.specs.Strip.{least}
-use Rattle.words.specs.Words.{byteOf, selectIn, Rowed}
+use Rattle.words.specs.Words.{byteOf, selectIn}
+use Rattle.words.specs.Working.{SelectBytes}
 
 -- ---- the arms of a match on 0, 1, ..
 -- l is none of 0 to n - 1, as the last arm has it
@@ -31,45 +34,36 @@ all : (ℕ → Bool) → ℕ → Bool
 all t zero = true
 all t (suc n) = t zero && all (λ i. t (suc i)) n
 
--- both halves of a test that passes
-left : (a b : Bool) → T (a && b) → T a
-left true b h = tt
-left false b h = h
-
-right : (a b : Bool) → T (a && b) → T b
-right true b h = h
-right false b h = absurd h
-
 -- what the test says of one of them
-all-at : (t : ℕ → Bool) (n : ℕ) → T (all t n) → (i : ℕ) → i < n → T (t i)
+all-at : (t : ℕ → Bool) (n : ℕ) → all t n ≡ true → (i : ℕ) → i < n → t i ≡ true
 unfolding all
 all-at t zero h i l = absurd (not-suc-le-zero l)
-all-at t (suc n) h zero l = left (t zero) (all (λ i. t (suc i)) n) h
-all-at t (suc n) h (suc i) l = all-at (λ i. t (suc i)) n (right (t zero) (all (λ i. t (suc i)) n) h) i (le-of-suc-le-suc l)
+all-at t (suc n) h zero l = and-first (t zero) (all (λ i. t (suc i)) n) h
+all-at t (suc n) h (suc i) l = all-at (λ i. t (suc i)) n (and-second (t zero) (all (λ i. t (suc i)) n) h) i (le-of-suc-le-suc l)
 
 -- ---- the table
 -- its 256 numbers: eight digits in base 256, each a position
-unfoldable pub entries : List ℕ
+unfoldable pub table : List ℕ
 unfolding digits listOf least ones
-entries = listOf (λ b. digits 256 (selectIn 8 b) 8) 256
+table = listOf (λ b. digits 256 (selectIn 8 b 1) 8) 256
 
 -- byte k of a number of the table is select in the byte b
 agrees : List ℕ → ℕ → ℕ → Bool
 unfolding least ones
-agrees xs b k = eqb (byteOf (getD xs b 0) k) (selectIn 8 b k)
+agrees xs b k = eqb (byteOf (getD xs b 0) k) (selectIn 8 b 1 k)
 
 -- so for all bytes and all ranks
-entries-pass : T (all (λ b. all (agrees entries b) 8) 256)
-unfolding all agrees entries
-entries-pass = tt
+table-pass : all (λ b. all (agrees table b) 8) 256 ≡ true
+unfolding all agrees table
+table-pass = refl
 
 -- number b, read in the part of sixteen that it stands in
-pub rowed : (i b r : ℕ) → b < 256 → b / 16 ≡ i → r ≡ getD (take 16 (drop (16 * i) entries)) (b % 16) 0 → Rowed b r
+pub select-bytes : (i b r : ℕ) → b < 256 → b / 16 ≡ i → r ≡ getD (take 16 (drop (16 * i) table)) (b % 16) 0 → SelectBytes b r
 unfolding agrees
-rowed i b r h e q k l =
+select-bytes i b r h e q k l =
     let place : 16 * i + b % 16 ≡ b = omega arith in
-    let whole : getD (take 16 (drop (16 * i) entries)) (b % 16) 0 ≡ getD entries b 0 =
-    getD-take 16 (drop (16 * i) entries) (b % 16) 0 (omega arith) ∙ getD-drop (16 * i) entries (b % 16) 0 ∙ ap (λ (n : ℕ). getD entries n 0) place in
+    let whole : getD (take 16 (drop (16 * i) table)) (b % 16) 0 ≡ getD table b 0 =
+    getD-take 16 (drop (16 * i) table) (b % 16) 0 (omega arith) ∙ getD-drop (16 * i) table (b % 16) 0 ∙ ap (λ (n : ℕ). getD table n 0) place in
     ap (λ (n : ℕ). byteOf n k) (q ∙ whole)
-    ∙ eqb→eq (byteOf (getD entries b 0) k) (selectIn 8 b k)
-    (all-at (agrees entries b) 8 (all-at (λ b. all (agrees entries b) 8) 256 entries-pass b h) k l)
+    ∙ eqb-true (byteOf (getD table b 0) k) (selectIn 8 b 1 k)
+    (all-at (agrees table b) 8 (all-at (λ b. all (agrees table b) 8) 256 table-pass b h) k l)

@@ -12,8 +12,8 @@ use lib.Bits.{bitAnd, bitOr, bitXor, differ}
 use borrow.Author.Tests.{eq-eqb, ne-eqb}
 use Rattle.words.specs.Bits.{bit, bitAt, ones}
 use Rattle.words.specs.Strip.{holds}
-use Rattle.words.specs.Words.{Written, Matched}
-use Rattle.words.proofs.Sums.{lt-or, ones-split, ones-ext, ones-const, ones-outside, part-ones}
+use Rattle.words.specs.Working.{Written, Matched}
+use Rattle.words.proofs.Sums.{lt-or, ones-more, ones-split, ones-ext, ones-const, ones-outside, part-ones}
 use Rattle.words.proofs.BitLaws.{bit-lt, bit-le, bit-xor, bit-and, bit-or, bit-not, bit-high, differ-one, differ-zero, mask, mask-in, mask-below, mask-above, mask-lt}
 
 -- ---- bits that hold a value
@@ -103,6 +103,14 @@ written-ones x a e b r n w la le =
     let s : ones (bit r) e ≡ ones (bit r) a + ones (λ p. bit r (a + p)) (e - a) = rw m at (ones-split (bit r) a (e - a)) in
     let c : ones (λ p. bit r (a + p)) (e - a) ≡ (e - a) * b = ones-const (λ p. bit r (a + p)) b (e - a) (λ p l. w .inside (a + p) (omega arith) (omega arith)) in
     omega (arith, o .0, o .1, s, c)
+
+-- one bit: the ones move by the new bit and the old
+pub written-one : (x i b r n : ℕ) → Written x i (i + 1) b r → i < n → ones (bit r) n + bit x i ≡ ones (bit x) n + b
+written-one x i b r n w l =
+    omega (arith, written-ones x i (i + 1) b r n w (omega arith) (omega arith), ones-more (bit x) i, ap (λ (k : ℕ). k * b) (only i), one-mul b)
+  where
+    only : (i : ℕ) → i + 1 - i ≡ 1
+    only i = omega arith
 
 -- ---- the word whose ones are the bits that equal v
 pub matched-one : (x : ℕ) → Matched x 1 x

@@ -4,7 +4,6 @@ use mathlib.Core.Bool.{Bool, true, false, not, _&&_}
 use mathlib.Core.List.{List, [], _∷_}
 use lib.Dec.{leb, eqb}
 use Rattle.words.specs.declared.handle.Handle.{Handle}
-use Rattle.words.specs.declared.refusal.Refusal.the-variants as refusal
 use Rattle.words.specs.Refusals.{Line, _⇒_}
 
 -- a block: the step of the capacity, and the smallest one
@@ -31,10 +30,15 @@ good h = allowed (h .capacity) && leb (h .length) (h .capacity)
 abbrev pub wordsOf : ℕ → ℕ
 wordsOf c = c / 64
 
--- all strip calls first: 1; 2; 3, where `right` says that the counters, where taken, are exactly as many as the capacity needs
-abbrev pub strip : Handle → ℕ → Bool → List Line
-strip h words right =
-    (not (good h) ⇒ refusal.Handle)
-    ∷ (not (eqb words (wordsOf (h .capacity))) ⇒ refusal.WordCount)
-    ∷ (not right ⇒ refusal.CounterCount)
+-- the flag of a call that takes no counters
+abbrev pub untaken : Bool
+untaken = true
+
+-- all strip calls first: 1 capacity not allowed or length above capacity; 2 words not exactly capacity / 64; 3 counters, where taken, not exactly as
+-- many as the capacity needs, which `counted` tells
+abbrev pub stripLines : Handle → ℕ → Bool → List Line
+stripLines h words counted =
+    (not (good h) ⇒ 1)
+    ∷ (not (eqb words (wordsOf (h .capacity))) ⇒ 2)
+    ∷ (not counted ⇒ 3)
     ∷ []

@@ -4,4 +4,4 @@ pub mod Words
 pub mod Refusals
 pub mod Handles
 pub mod Calls
-pub mod Scans
+pub mod Working

@@ -1,52 +1,73 @@
--- The refusals, their numbers, and ordered tables of them. Assumes nothing.
+-- The refusals, their numbers, ordered tables of them, and what a reading call tells. Assumes nothing.
 use Prim.Native.Nat.{ℕ, _+_, _^_}
 use mathlib.Core.Bool.{Bool, true, false, cond}
 use mathlib.Core.List.{List, [], _∷_}
+use mathlib.Core.Option.{Option, some, none}
 use Rattle.words.specs.declared.refusal.Refusal.{Refusal}
-use Rattle.words.specs.declared.refusal.Refusal.the-variants.{Handle, WordCount, CounterCount, Position, Span, NotFound, Full, Value, Unfit, Unsound, LabelRange, LabelPresent, ImageSize, LabelAbsent, WrongRow}
+use Rattle.words.specs.declared.refusal.Refusal.the-variants as refusal
 use Rattle.words.specs.declared.refusal.Verdict.{Verdict}
 use Rattle.words.specs.declared.refusal.Verdict.the-variants.{Pass, Refuse}
 use Rattle.words.specs.declared.refusal.Answer.{Answer}
-use Rattle.words.specs.declared.refusal.Answer.the-variants.{Is, Refused}
+use Rattle.words.specs.declared.refusal.Answer.the-variants.{Value, Refused}
 
 -- the number of a refusal
 abbrev pub numberOf : Refusal → ℕ
-numberOf Handle = 1
-numberOf WordCount = 2
-numberOf CounterCount = 3
-numberOf Position = 4
-numberOf Span = 5
-numberOf NotFound = 6
-numberOf Full = 7
-numberOf Value = 8
-numberOf Unfit = 9
-numberOf Unsound = 10
-numberOf LabelRange = 11
-numberOf LabelPresent = 12
-numberOf ImageSize = 13
-numberOf LabelAbsent = 14
-numberOf WrongRow = 15
+numberOf refusal.BadHandle = 1
+numberOf refusal.WordCount = 2
+numberOf refusal.CounterCount = 3
+numberOf refusal.Position = 4
+numberOf refusal.Span = 5
+numberOf refusal.NotFound = 6
+numberOf refusal.Full = 7
+numberOf refusal.BadValue = 8
+numberOf refusal.Unfit = 9
+numberOf refusal.Unsound = 10
+numberOf refusal.BadLabel = 11
+numberOf refusal.LabelPresent = 12
+numberOf refusal.NoRoom = 13
+numberOf refusal.LabelAbsent = 14
+numberOf refusal.WrongRow = 15
 
--- a line of a table: the refusal where the condition holds
+-- a line of a table: the number of the refusal that is given where the condition holds
 pub record Line : Type 0 where
-  pub holds : Bool
-  pub refusal : Refusal
+  pub applies : Bool
+  pub number : ℕ
 
 infix 70 _⇒_
-abbrev pub _⇒_ : Bool → Refusal → Line
-b ⇒ r = record { holds = b; refusal = r }
+abbrev pub _⇒_ : Bool → ℕ → Line
+b ⇒ n = record { applies = b; number = n }
 
--- refusals in order: the first line whose condition holds
-abbrev pub judge : List Line → Verdict
-judge [] = Pass
-judge (l ∷ ls) = cond (l .holds) (Refuse (l .refusal)) (judge ls)
+-- refusals in order: the number of the first line that applies, if any
+abbrev pub judge : List Line → Option ℕ
+judge [] = none
+judge (l ∷ ls) = cond (l .applies) (some (l .number)) (judge ls)
 
--- the value, unless refused
-abbrev pub answer : Verdict → ℕ → Answer
-answer Pass x = Is x
-answer (Refuse r) x = Refused r
+-- what the checks of a call say, by its number
+abbrev pub verdictOf : Verdict → Option ℕ
+verdictOf Pass = none
+verdictOf (Refuse r) = some (numberOf r)
 
--- an answer as one number: the value, or 2^32 plus the refusal's number
-abbrev pub coded : Answer → ℕ
-coded (Is x) = x
-coded (Refused r) = 2 ^ 32 + numberOf r
+-- `late`, or what a refusal of that number gives
+abbrev pub unless : {A : Type 0} → Option ℕ → (ℕ → A) → A → A
+unless none refuse late = late
+unless (some n) refuse late = refuse n
+
+-- what a reading call tells: a value, or the number of a refusal
+pub data Told : Type 0 where
+  value : ℕ → Told
+  refused : ℕ → Told
+
+-- an answer by its value or number
+abbrev pub toldOf : Answer → Told
+toldOf (Value x) = value x
+toldOf (Refused r) = refused (numberOf r)
+
+-- a position; 6 where there is none
+abbrev pub found : Option ℕ → Told
+found (some p) = value p
+found none = refused 6
+
+-- as one number: the value, or 2^32 plus the refusal's number
+abbrev pub coded : Told → ℕ
+coded (value x) = x
+coded (refused n) = 2 ^ 32 + n

@@ -1,19 +1,28 @@
 -- The strip, and count, find, next and prior over it, by their standard names. Assumes nothing.
-use Prim.Native.Nat.{ℕ, zero, suc}
+use Prim.Native.Nat.{ℕ, zero, suc, min, _≤_}
+use mathlib.Core.Path.{_≡_}
 use mathlib.Core.Bool.{Bool, true, false, cond, _&&_}
 use mathlib.Core.List.{List}
 use mathlib.Core.Option.{Option, some, none}
 use lib.ListN.{length, getD}
-use lib.Dec.{leb, eqb}
+use lib.Dec.{leb, ltb, eqb}
 use Rattle.words.specs.Bits.{bitAt, ones, listOf}
 
 -- a strip is a list of bits, position 0 first: the bit at position p
 abbrev pub cell : List ℕ → ℕ → ℕ
 cell s p = getD s p 0
 
+-- v neither 0 nor 1: no cell holds it
+abbrev pub badValue : ℕ → Bool
+badValue v = ltb 1 v
+
 -- the strip of length n that a list of words holds
 abbrev pub stripOf : List ℕ → ℕ → List ℕ
 stripOf ws n = listOf (bitAt ws) n
+
+-- bits at and past the length n are 0
+abbrev pub PastZero : List ℕ → ℕ → Type 0
+PastZero ws n = (p : ℕ) → n ≤ p → bitAt ws p ≡ 0
 
 -- the position a, or b where a is none
 abbrev pub orElse : Option ℕ → Option ℕ → Option ℕ
@@ -34,7 +43,7 @@ greatest t (suc n) = cond (t n) (some n) (greatest t n)
 abbrev pub holds : (ℕ → ℕ) → ℕ → ℕ → ℕ
 holds f v p = cond (eqb (f p) v) 1 0
 
--- The four definitions, over any cells f, of which there are n: those of a strip, of a word, of a byte.
+-- The four definitions over any cells f: those of a strip, of a word, of a byte. Where a search has no other bound, n cells are searched.
 
 -- count(v, i): how many of the first i cells equal v
 abbrev pub rankOf : (ℕ → ℕ) → ℕ → ℕ → ℕ
@@ -52,10 +61,10 @@ successorOf f n v i = least (λ p. leb i p && eqb (f p) v) n
 abbrev pub predecessorOf : (ℕ → ℕ) → ℕ → ℕ → Option ℕ
 predecessorOf f v i = greatest (λ p. eqb (f p) v) i
 
--- The same over a strip.
+-- The same over a strip, which has as many cells as it is long.
 
 abbrev pub rank : List ℕ → ℕ → ℕ → ℕ
-rank s v i = rankOf (cell s) v i
+rank s v i = rankOf (cell s) v (min i (length s))
 
 abbrev pub select : List ℕ → ℕ → ℕ → Option ℕ
 select s v k = selectOf (cell s) (length s) v k
@@ -64,4 +73,4 @@ abbrev pub successor : List ℕ → ℕ → ℕ → Option ℕ
 successor s v i = successorOf (cell s) (length s) v i
 
 abbrev pub predecessor : List ℕ → ℕ → ℕ → Option ℕ
-predecessor s v i = predecessorOf (cell s) v i
+predecessor s v i = predecessorOf (cell s) v (min i (length s))

@@ -2,7 +2,7 @@
 ghost use mathlib.Core.Path.{_≡_};
 ghost use Prim.Native.Nat.{_+_, _-_, _^_, _<_, _≤_};
 ghost use Rattle.words.specs.Bits.{bit, ones};
-ghost use Rattle.words.specs.Words.{Written, Matched};
+ghost use Rattle.words.specs.Working.{Written, Matched};
 
 // Bit i of a word.
 pub fn bit_of(x: u64, i: usize) -> u64

@@ -1,11 +1,16 @@
 // The handle of a strip, and the checks that all strip calls share.
 ghost use mathlib.Core.Path.{_≡_};
-ghost use Rattle.words.specs.Refusals.{judge};
-ghost use Rattle.words.specs.Handles.{handle as handleOf, strip, allowed as allowedOf};
+ghost use Rattle.words.specs.Refusals.{judge, verdictOf};
+ghost use Rattle.words.specs.Handles.{handle as handleOf, stripLines, allowed as allowedOf};
 use super::refusal::Refusal;
 use super::refusal::Verdict;
 
-// What stands for a strip in the caller's hands, beside its words.
+// A block, and the step of the capacity.
+pub const BLOCK_BITS: usize = 512;
+// The largest capacity.
+pub const MOST_BITS: usize = 134217728;
+
+// A strip's capacity and length. The words lie with the caller.
 pub struct Handle {
     pub capacity: usize,
     pub length: usize,
@@ -23,30 +28,30 @@ impl Handle {
 pub fn allowed(capacity: usize) -> bool
     ensures { λ r. ⌜ r ≡ allowedOf capacity ⌝ }
 {
-    if capacity % 512 != 0 {
+    if capacity % BLOCK_BITS != 0 {
         return false;
     }
-    if capacity < 512 {
+    if capacity < BLOCK_BITS {
         return false;
     }
-    capacity <= 134217728
+    capacity <= MOST_BITS
 }
 
-// The checks 1, 2 and 3, for as many words and for counters that are right in number, or not taken.
-pub fn check_strip(h: Handle, words: usize, right: bool) -> Verdict
-    ensures { λ r. ⌜ r ≡ judge (strip h words right) ⌝ }
+// The checks 1, 2 and 3, where as many words are lent. `counted` says that the counters are right in number, or not taken.
+pub fn check_strip(h: Handle, words: usize, counted: bool) -> Verdict
+    ensures { λ r. ⌜ verdictOf r ≡ judge (stripLines h words counted) ⌝ }
 {
     let capacity = h.capacity;
     if !allowed(capacity) {
-        return Verdict::Refuse(Refusal::Handle);
+        return Verdict::Refuse(Refusal::BadHandle);
     }
     if capacity < h.length {
-        return Verdict::Refuse(Refusal::Handle);
+        return Verdict::Refuse(Refusal::BadHandle);
     }
     if words != capacity / 64 {
         return Verdict::Refuse(Refusal::WordCount);
     }
-    if !right {
+    if !counted {
         return Verdict::Refuse(Refusal::CounterCount);
     }
     Verdict::Pass

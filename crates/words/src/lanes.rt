@@ -1,10 +1,9 @@
 // A word as eight byte lanes.
 ghost use mathlib.Core.Path.{_≡_};
-ghost use mathlib.Core.Bool.{cond};
 ghost use Prim.Native.Nat.{ℕ, _*_, _%_, _^_, _<_, _≤_};
-ghost use lib.Dec.{leb};
 ghost use Rattle.words.specs.Bits.{digits, ones};
 ghost use Rattle.words.specs.Words.{byteOf, onesInByte, Prefixes};
+ghost use Rattle.words.specs.Working.{atMost};
 
 // x times 0x0101_0101_0101_0101, modulo 2^64.
 pub fn lane_product(x: u64) -> u64
@@ -34,7 +33,7 @@ pub fn prefix_counts(x: u64) -> u64
 // How many of the eight lanes of s, each at most 64, are at most k.
 pub fn lanes_at_most(s: u64, k: u64) -> u64
     requires { ⌜ (k < 64) × ((j : ℕ) → j < 8 → byteOf s j ≤ 64) ⌝ }
-    ensures { λ r. ⌜ r ≡ ones (λ j. cond (leb (byteOf s j) k) 1 0) 8 ⌝ }
+    ensures { λ r. ⌜ r ≡ ones (atMost (byteOf s) k) 8 ⌝ }
 {
     let high = k * 0x0101_0101_0101_0101 + 0x8080_8080_8080_8080;
     let tests = (high - s) & 0x8080_8080_8080_8080;

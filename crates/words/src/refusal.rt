@@ -1,24 +1,39 @@
 // Refusals, the verdict of a call's checks, and the answer of a reading call.
 ghost use mathlib.Core.Path.{_≡_};
 ghost use Prim.Native.Nat.{_<_};
-ghost use Rattle.words.specs.Refusals.{numberOf, coded as codedOf};
+ghost use Rattle.words.specs.Refusals.{numberOf, toldOf, coded as codedOf};
 
 // Why a call is refused, in the order of the numbers 1 to 15.
 pub enum Refusal {
-    Handle,
+    // capacity not allowed, or length above capacity
+    BadHandle,
+    // words not exactly capacity / 64
     WordCount,
+    // counters not exactly the node total times 72
     CounterCount,
+    // a position at or past, or above, the length
     Position,
+    // a span whose start is above its end
     Span,
+    // no such stroke
     NotFound,
+    // length at capacity
     Full,
-    Value,
+    // a value neither 0 nor 1
+    BadValue,
+    // a record that does not fit
     Unfit,
+    // a chain that is not sound
     Unsound,
-    LabelRange,
+    // a label out of range
+    BadLabel,
+    // a label that is there already
     LabelPresent,
-    ImageSize,
+    // an image too short or too long, or a record that does not end inside it
+    NoRoom,
+    // a label that is not there
     LabelAbsent,
+    // a row whose ones, entries or padding are wrong
     WrongRow,
 }
 
@@ -30,7 +45,7 @@ pub enum Verdict {
 
 // What a reading call answers.
 pub enum Answer {
-    Is(u64),
+    Value(u64),
     Refused(Refusal),
 }
 
@@ -39,19 +54,19 @@ pub fn number(r: Refusal) -> u64
     ensures { λ n. ⌜ (n ≡ numberOf r) × (n < 16) ⌝ }
 {
     match r {
-        Refusal::Handle => 1,
+        Refusal::BadHandle => 1,
         Refusal::WordCount => 2,
         Refusal::CounterCount => 3,
         Refusal::Position => 4,
         Refusal::Span => 5,
         Refusal::NotFound => 6,
         Refusal::Full => 7,
-        Refusal::Value => 8,
+        Refusal::BadValue => 8,
         Refusal::Unfit => 9,
         Refusal::Unsound => 10,
-        Refusal::LabelRange => 11,
+        Refusal::BadLabel => 11,
         Refusal::LabelPresent => 12,
-        Refusal::ImageSize => 13,
+        Refusal::NoRoom => 13,
         Refusal::LabelAbsent => 14,
         Refusal::WrongRow => 15,
     }
@@ -59,10 +74,10 @@ pub fn number(r: Refusal) -> u64
 
 // An answer as one number: the value, or 2^32 plus the refusal's number.
 pub fn coded(a: Answer) -> u64
-    ensures { λ r. ⌜ r ≡ codedOf a ⌝ }
+    ensures { λ r. ⌜ r ≡ codedOf (toldOf a) ⌝ }
 {
     match a {
-        Answer::Is(x) => x,
+        Answer::Value(x) => x,
         Answer::Refused(r) => 4294967296 + number(r),
     }
 }

@@ -3,7 +3,7 @@ ghost use mathlib.Core.Path.{_≡_};
 ghost use Prim.Native.Nat.{ℕ, _+_, _*_, _<_, _≤_};
 ghost use lib.ListN.{length};
 ghost use Rattle.words.specs.Bits.{bit, bitAt};
-ghost use Rattle.words.specs.Scans.{Onward, Back};
+ghost use Rattle.words.specs.Working.{FirstFrom, LastBefore};
 use super::bits::matches;
 use super::bits::ones_of;
 use super::bits::put_range;
@@ -12,7 +12,7 @@ use super::select::select_in_word;
 // The lowest one of a word that has one.
 fn lowest_one(x: u64) -> usize
     requires { ⌜ (x ≡ 0 → ⊥) ⌝ }
-    ensures { λ r. ⌜ (r < 64) × Onward (bit x) 64 1 0 r ⌝ }
+    ensures { λ r. ⌜ (r < 64) × FirstFrom (bit x) 64 1 0 r ⌝ }
 {
     select_in_word(x, 0)
 }
@@ -20,7 +20,7 @@ fn lowest_one(x: u64) -> usize
 // One past the highest one of a word that has one.
 fn past_highest_one(x: u64) -> usize
     requires { ⌜ (x ≡ 0 → ⊥) ⌝ }
-    ensures { λ r. ⌜ (0 < r) × Back (bit x) 1 64 r ⌝ }
+    ensures { λ r. ⌜ (0 < r) × LastBefore (bit x) 1 64 r ⌝ }
 {
     select_in_word(x, ones_of(x) - 1) + 1
 }
@@ -28,7 +28,7 @@ fn past_highest_one(x: u64) -> usize
 // The smallest position in the words from word `from` to word `to` - 1 that holds v, or the end of these words.
 fn first_in_words(words: &[u64], from: usize, to: usize, v: u64) -> usize
     requires { ⌜ (from ≤ to) × (to ≤ length (now words)) × (to ≤ 2097152) × (v ≤ 1) ⌝ }
-    ensures { λ r. ⌜ Onward (bitAt (now (words .entry))) (64 * to) v (64 * from) r ⌝ }
+    ensures { λ r. ⌜ FirstFrom (bitAt (now (words .entry))) (64 * to) v (64 * from) r ⌝ }
 {
     let mut j = from;
     while j < to {
@@ -44,7 +44,7 @@ fn first_in_words(words: &[u64], from: usize, to: usize, v: u64) -> usize
 // One past the largest position in the words below word `to` that holds v, or 0.
 fn last_in_words(words: &[u64], to: usize, v: u64) -> usize
     requires { ⌜ (to ≤ length (now words)) × (to ≤ 2097152) × (v ≤ 1) ⌝ }
-    ensures { λ r. ⌜ Back (bitAt (now (words .entry))) v (64 * to) r ⌝ }
+    ensures { λ r. ⌜ LastBefore (bitAt (now (words .entry))) v (64 * to) r ⌝ }
 {
     let mut j = to;
     while 0 < j {
@@ -65,9 +65,9 @@ fn smaller(a: usize, b: usize) -> usize
 }
 
 // The smallest position at or past i, below n, that holds v, or n.
-pub fn onward(words: &[u64], n: usize, v: u64, i: usize) -> usize
+pub fn first_from(words: &[u64], n: usize, v: u64, i: usize) -> usize
     requires { ⌜ (i ≤ n) × (n ≤ 64 * length (now words)) × (n ≤ 134217728) × (v ≤ 1) ⌝ }
-    ensures { λ r. ⌜ Onward (bitAt (now (words .entry))) n v i r ⌝ }
+    ensures { λ r. ⌜ FirstFrom (bitAt (now (words .entry))) n v i r ⌝ }
 {
     if i == n {
         return n;
@@ -81,9 +81,9 @@ pub fn onward(words: &[u64], n: usize, v: u64, i: usize) -> usize
 }
 
 // One past the largest position below i that holds v, or 0.
-pub fn back(words: &[u64], v: u64, i: usize) -> usize
+pub fn last_before(words: &[u64], v: u64, i: usize) -> usize
     requires { ⌜ (i ≤ 64 * length (now words)) × (i ≤ 134217728) × (v ≤ 1) ⌝ }
-    ensures { λ r. ⌜ Back (bitAt (now (words .entry))) v i r ⌝ }
+    ensures { λ r. ⌜ LastBefore (bitAt (now (words .entry))) v i r ⌝ }
 {
     let j = i / 64;
     let s = i % 64;

@@ -3,7 +3,8 @@
 ghost use mathlib.Core.Path.{_≡_};
 ghost use Prim.Native.Nat.{_<_};
 ghost use lib.ListN.{length, getD};
-ghost use Rattle.words.specs.Words.{selectIn, Rowed};
+ghost use Rattle.words.specs.Words.{selectIn};
+ghost use Rattle.words.specs.Working.{SelectBytes};
 
 const SELECT: [u64; 256] = [
     0x0808_0808_0808_0808,
@@ -290,9 +291,9 @@ fn entry(t: &[u64], l: u64) -> u64
 }
 
 // The eight entries of the byte b.
-fn row(b: u64) -> u64
+fn entries(b: u64) -> u64
     requires { ⌜ b < 256 ⌝ }
-    ensures { λ r. ⌜ Rowed b r ⌝ }
+    ensures { λ r. ⌜ SelectBytes b r ⌝ }
 {
     let high = b / 16;
     let low = b % 16;
@@ -319,7 +320,7 @@ fn row(b: u64) -> u64
 // The position of the k-th one of the byte b, or 8.
 pub fn select_in_byte(b: u64, k: usize) -> usize
     requires { ⌜ (b < 256) × (k < 8) ⌝ }
-    ensures { λ r. ⌜ r ≡ selectIn 8 b k ⌝ }
+    ensures { λ r. ⌜ r ≡ selectIn 8 b 1 k ⌝ }
 {
-    ((row(b) >> (8 * k)) % 256) as usize
+    ((entries(b) >> (8 * k)) % 256) as usize
 }

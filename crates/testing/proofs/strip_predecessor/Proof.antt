@@ -3,7 +3,7 @@ use borrow.Author.Needs.{needs}
 use mathlib.Core.Path.{ap, _∙_}
 use Rattle.words.specs.declared.handle.Handle.{Handle}
 use Rattle.words.specs.Refusals.{coded}
-use Rattle.words.specs.Calls.{predecessorAnswer}
+use Rattle.words.specs.Calls.{predecessorTold}
 use Rattle.testing.proofs.strip_predecessor.Statement.{statement}
 use Rattle.testing.proofs.strip_predecessor.Tie as tie
 
@@ -19,7 +19,7 @@ coded-requires c κs = search needs
 returns : tie.Need-returns
 returns c =
     let a = c .before .before .before .before .args in
-    c .coded .ensures ∙ ap coded (c .before .predecessor .ensures ∙ ap (λ (h : Handle). predecessorAnswer h (a .words .now) (a .v) (a .i)) (c .before .before .new .ensures))
+    c .coded .ensures ∙ ap coded (c .before .predecessor .ensures ∙ ap (λ (h : Handle). predecessorTold h (a .words .now) (a .v) (a .i)) (c .before .before .new .ensures))
 
 pub strip-predecessor-spec : {M : Type 1} → statement M
 strip-predecessor-spec = tie.close (tie.spec new-requires predecessor-requires coded-requires returns)

@@ -4,7 +4,7 @@ use Prim.Native.Nat.{ℕ, _+_, _-_}
 use lib.Bits.{bitXor}
 use borrow.Author.Needs.{needs}
 use Rattle.words.specs.Bits.{bit}
-use Rattle.words.specs.Words.{Written}
+use Rattle.words.specs.Working.{Written}
 use Rattle.words.proofs.BitLaws.{one-shl}
 use Rattle.words.proofs.WordLaws.{written-flip}
 use Rattle.words.proofs.bits.flip_bit.Statement.{statement}

@@ -2,7 +2,7 @@
 use mathlib.Core.Path.{_≡_, sym, subst}
 use Prim.Native.Nat.{ℕ, _-_, _^_}
 use native.Mathlib.Omega.{arith}
-use Rattle.words.specs.Words.{Matched}
+use Rattle.words.specs.Working.{Matched}
 use Rattle.words.proofs.WordLaws.{matched-one, matched-zero}
 use Rattle.words.proofs.bits.matches.Statement.{statement}
 use Rattle.words.proofs.bits.matches.Tie as tie

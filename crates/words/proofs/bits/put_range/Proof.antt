@@ -5,7 +5,7 @@ use native.Mathlib.Omega.{arith}
 use lib.Pow.{pow-mono}
 use lib.Bits.{bitAnd, bitOr}
 use borrow.Author.Needs.{needs}
-use Rattle.words.specs.Words.{Written}
+use Rattle.words.specs.Working.{Written}
 use Rattle.words.proofs.BitLaws.{mask, mask-is}
 use Rattle.words.proofs.WordLaws.{written-set, written-clear}
 use Rattle.words.proofs.bits.put_range.Statement.{statement}

@@ -6,9 +6,6 @@ use borrow.Author.Tests.{eq-eqb, ne-eqb, le-leb, lt-leb, not-true, not-false}
 use Rattle.words.specs.Handles.{allowed}
 use Rattle.words.proofs.handle.check_strip.Statement.{statement}
 use Rattle.words.proofs.handle.check_strip.Tie as tie
-use Rattle.words.proofs.handle.check_strip.Reads as reads
-use Rattle.words.proofs.handle.check_strip.Lts as lts
-use Rattle.words.proofs.handle.allowed.Reads as allowed-reads
 
 allowed-requires : tie.Need-allowed-requires
 allowed-requires c κs = search needs

@@ -2,7 +2,8 @@
 use borrow.Author.Needs.{needs}
 use mathlib.Core.Path.{sym, ap, _∙_}
 use Prim.Native.Nat.{ℕ, _+_, _^_}
-use Rattle.words.specs.Refusals.{coded}
+use Rattle.words.specs.Refusals.{toldOf, coded}
+use Rattle.words.specs.declared.refusal.Answer.{Answer}
 use Rattle.words.proofs.refusal.coded.Statement.{statement}
 use Rattle.words.proofs.refusal.coded.Tie as tie
 
@@ -22,7 +23,7 @@ returns : tie.Need-returns
 returns c = search needs
 
 returns-2 : tie.Need-returns-2
-returns-2 c = ap (λ (n : ℕ). 2 ^ 32 + n) (c .number .ensures .0) ∙ sym (ap coded (c .before .before .a2 .given .1))
+returns-2 c = ap (λ (n : ℕ). 2 ^ 32 + n) (c .number .ensures .0) ∙ sym (ap (λ (a : Answer). coded (toldOf a)) (c .before .before .a2 .given .1))
 
 pub coded-spec : {M : Type 1} → statement M
 coded-spec =

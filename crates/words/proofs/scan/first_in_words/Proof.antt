@@ -6,7 +6,7 @@ use native.Mathlib.Nat.{le-refl}
 use native.Mathlib.Omega.{arith}
 use borrow.Author.Needs.{needs}
 use Rattle.words.specs.Bits.{bitAt}
-use Rattle.words.specs.Scans.{Onward}
+use Rattle.words.specs.Working.{FirstFrom}
 use Rattle.words.proofs.ScanLaws.{Clear, Marked, clear-join, onward-from, onward-upto, onward-end, marked-word, marked-none, marked-first}
 use Rattle.words.proofs.scan.first_in_words.Statement.{statement}
 use Rattle.words.proofs.scan.first_in_words.Tie as tie
@@ -56,9 +56,9 @@ returns c =
     let r : ℕ = c .lowest-one .result in
     let low = c .lowest-one .ensures in
     let a : ℕ = 64 * j + r in
-    let o : Onward f (64 * (j + 1)) (s .v) (64 * j) a =
+    let o : FirstFrom f (64 * (j + 1)) (s .v) (64 * j) a =
     marked-first f (s .v) (64 * j) (64 * j) (64 * (j + 1)) (m .matches .result) (marked m) r (low .0) (low .1) in
-    let w : Onward f (64 * s .to) (s .v) (64 * j) a =
+    let w : FirstFrom f (64 * s .to) (s .v) (64 * j) a =
     onward-upto f (64 * (j + 1)) (s .v) (64 * j) a (64 * s .to) a (omega arith) o (inl (omega arith)) (le-refl a) (omega arith) (λ l. refl) in
     onward-from f (64 * s .to) (s .v) (64 * s .from) (64 * j) a (omega arith) (m .before .before .before .loop .inv .2) w
 

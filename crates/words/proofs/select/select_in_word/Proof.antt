@@ -80,7 +80,7 @@ select-in-byte-requires c κs =
 
 -- the position, and that it is in the byte
 at : (c : tie.After-select-in-byte)
-    → (selectIn 64 (c .before .before .before .before .before .args .x) (c .before .before .before .before .before .args .k)
+    → (selectIn 64 (c .before .before .before .before .before .args .x) 1 (c .before .before .before .before .before .args .k)
     ≡ 8 * c .before .before .lanes-at-most .result + c .select-in-byte .result) × (c .select-in-byte .result < 8)
 at c =
     let s = c .before in

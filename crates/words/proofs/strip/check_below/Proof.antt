@@ -3,8 +3,8 @@ use mathlib.Core.Path.{sym, _∙_}
 use mathlib.Core.List.{[], _∷_}
 use borrow.Author.Needs.{needs}
 use borrow.Author.Tests.{le-leb, lt-leb}
-use Rattle.words.specs.Handles.{strip}
-use Rattle.words.specs.Calls.{positionLines}
+use Rattle.words.specs.Handles.{stripLines}
+use Rattle.words.specs.Calls.{belowLine}
 use Rattle.words.proofs.CheckLaws.{refused-first, passed-first}
 use Rattle.words.proofs.strip.check_below.Statement.{statement}
 use Rattle.words.proofs.strip.check_below.Tie as tie
@@ -21,18 +21,18 @@ enum-told-2 c = search needs
 returns : tie.Need-returns
 returns c =
     let a = c .before .before .before .args in
-    refused-first (strip (a .h) (a .words) (a .right)) (positionLines (a .h) (a .i)) _ _ (c .before .before .check-strip .ensures) (c .enum-told2 .given .1)
+    refused-first (stripLines (a .h) (a .words) (a .counted)) (belowLine (a .h) (a .i) ∷ []) _ _ (c .before .before .check-strip .ensures) (c .enum-told2 .given .1)
 
 returns-2 : tie.Need-returns-2
 returns-2 c =
     let a = c .before .before .before .before .before .args in
-    sym (passed-first (strip (a .h) (a .words) (a .right)) (positionLines (a .h) (a .i)) _ (c .before .before .before .before .check-strip .ensures) (c .before .before .enum-told .given .1)
+    sym (passed-first (stripLines (a .h) (a .words) (a .counted)) (belowLine (a .h) (a .i) ∷ []) _ (c .before .before .before .before .check-strip .ensures) (c .before .before .enum-told .given .1)
     ∙ simp (le-leb _ _ (c .if1 .taken)))
 
 returns-3 : tie.Need-returns-3
 returns-3 c =
     let a = c .before .before .before .before .before .args in
-    sym (passed-first (strip (a .h) (a .words) (a .right)) (positionLines (a .h) (a .i)) _ (c .before .before .before .before .check-strip .ensures) (c .before .before .enum-told .given .1)
+    sym (passed-first (stripLines (a .h) (a .words) (a .counted)) (belowLine (a .h) (a .i) ∷ []) _ (c .before .before .before .before .check-strip .ensures) (c .before .before .enum-told .given .1)
     ∙ simp (lt-leb _ _ (c .if1 .left)))
 
 pub check-below-spec : {M : Type 1} → statement M

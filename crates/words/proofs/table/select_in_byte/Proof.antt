@@ -3,8 +3,8 @@ use borrow.Author.Needs.{needs}
 use Rattle.words.proofs.table.select_in_byte.Statement.{statement}
 use Rattle.words.proofs.table.select_in_byte.Tie as tie
 
-row-requires : tie.Need-row-requires
-row-requires c κs = search needs
+entries-requires : tie.Need-entries-requires
+entries-requires c κs = search needs
 
 mul-result : tie.Need-mul-result
 mul-result c = search needs
@@ -13,7 +13,7 @@ shr-result : tie.Need-shr-result
 shr-result c = search needs
 
 returns : tie.Need-returns
-returns c = c .row .ensures (c .before .args .k) (c .before .pre .1)
+returns c = c .entries .ensures (c .before .args .k) (c .before .pre .1)
 
 pub select-in-byte-spec : {M : Type 1} → statement M
-select-in-byte-spec = tie.close (tie.spec row-requires mul-result shr-result returns)
+select-in-byte-spec = tie.close (tie.spec entries-requires mul-result shr-result returns)

@@ -1,12 +1,12 @@
--- `words::scan::onward` meets its contract: the word of i with its bits below i cleared, then the words after it. Assumes nothing.
+-- `words::scan::first_from` meets its contract: the word of i with its bits below i cleared, then the words after it. Assumes nothing.
 use mathlib.Core.Logic.{inl, inr}
 use Prim.Native.Nat.{ℕ, _+_, _*_, _/_}
 use native.Mathlib.Omega.{arith}
 use borrow.Author.Needs.{needs}
 use Rattle.words.specs.Bits.{bitAt}
 use Rattle.words.proofs.ScanLaws.{Marked, onward-from, onward-upto, marked-from, marked-none, marked-first}
-use Rattle.words.proofs.scan.onward.Statement.{statement}
-use Rattle.words.proofs.scan.onward.Tie as tie
+use Rattle.words.proofs.scan.first_from.Statement.{statement}
+use Rattle.words.proofs.scan.first_from.Tie as tie
 
 returns : tie.Need-returns
 returns c = search needs
@@ -81,8 +81,8 @@ returns-3 c =
     (marked-none f (s .v) (64 * j) (s .i) (64 * (j + 1)) (m .put-range .result) (marked m) (c .before .before .if2 .left)) (c .before .first-in-words .ensures))
     (inr (omega arith)) (c .smaller2 .ensures .0) (c .smaller2 .ensures .1) (c .smaller2 .ensures .2)
 
-pub onward-spec : {M : Type 1} → statement M
-onward-spec =
+pub first-from-spec : {M : Type 1} → statement M
+first-from-spec =
     tie.close
     (tie.spec
     returns

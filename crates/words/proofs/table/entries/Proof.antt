@@ -1,11 +1,11 @@
--- `words::table::row` meets its contract: in each arm the part lent is the same part of the computed table, which antt compares with the source.
+-- `words::table::entries` meets its contract: in each arm the part lent is the same part of the computed table, which antt compares with the source.
 -- Assumes nothing.
 use Prim.Native.Nat.{_/_}
 use native.Mathlib.Omega.{arith}
 use borrow.Author.Needs.{needs}
-use Rattle.words.proofs.TableLaws.{past, entries, rowed}
-use Rattle.words.proofs.table.row.Statement.{statement}
-use Rattle.words.proofs.table.row.Tie as tie
+use Rattle.words.proofs.TableLaws.{past, table, select-bytes}
+use Rattle.words.proofs.table.entries.Statement.{statement}
+use Rattle.words.proofs.table.entries.Tie as tie
 
 sub-entry : tie.Need-sub-entry
 sub-entry c = search needs
@@ -200,71 +200,71 @@ entry-requires-16 : tie.Need-entry-requires-16
 entry-requires-16 c κs = search needs
 
 returns : tie.Need-returns
-unfolding entries
-returns c = let s = c .before .before .before in rowed 0 _ _ (s .before .pre) (s .match .keys1) (c .entry .ensures)
+unfolding table
+returns c = let s = c .before .before .before in select-bytes 0 _ _ (s .before .pre) (s .match .keys1) (c .entry .ensures)
 
 returns-2 : tie.Need-returns-2
-unfolding entries
-returns-2 c = let s = c .before .before .before in rowed 1 _ _ (s .before .pre) (s .match .keys2) (c .entry2 .ensures)
+unfolding table
+returns-2 c = let s = c .before .before .before in select-bytes 1 _ _ (s .before .pre) (s .match .keys2) (c .entry2 .ensures)
 
 returns-3 : tie.Need-returns-3
-unfolding entries
-returns-3 c = let s = c .before .before .before in rowed 2 _ _ (s .before .pre) (s .match .keys3) (c .entry3 .ensures)
+unfolding table
+returns-3 c = let s = c .before .before .before in select-bytes 2 _ _ (s .before .pre) (s .match .keys3) (c .entry3 .ensures)
 
 returns-4 : tie.Need-returns-4
-unfolding entries
-returns-4 c = let s = c .before .before .before in rowed 3 _ _ (s .before .pre) (s .match .keys4) (c .entry4 .ensures)
+unfolding table
+returns-4 c = let s = c .before .before .before in select-bytes 3 _ _ (s .before .pre) (s .match .keys4) (c .entry4 .ensures)
 
 returns-5 : tie.Need-returns-5
-unfolding entries
-returns-5 c = let s = c .before .before .before in rowed 4 _ _ (s .before .pre) (s .match .keys5) (c .entry5 .ensures)
+unfolding table
+returns-5 c = let s = c .before .before .before in select-bytes 4 _ _ (s .before .pre) (s .match .keys5) (c .entry5 .ensures)
 
 returns-6 : tie.Need-returns-6
-unfolding entries
-returns-6 c = let s = c .before .before .before in rowed 5 _ _ (s .before .pre) (s .match .keys6) (c .entry6 .ensures)
+unfolding table
+returns-6 c = let s = c .before .before .before in select-bytes 5 _ _ (s .before .pre) (s .match .keys6) (c .entry6 .ensures)
 
 returns-7 : tie.Need-returns-7
-unfolding entries
-returns-7 c = let s = c .before .before .before in rowed 6 _ _ (s .before .pre) (s .match .keys7) (c .entry7 .ensures)
+unfolding table
+returns-7 c = let s = c .before .before .before in select-bytes 6 _ _ (s .before .pre) (s .match .keys7) (c .entry7 .ensures)
 
 returns-8 : tie.Need-returns-8
-unfolding entries
-returns-8 c = let s = c .before .before .before in rowed 7 _ _ (s .before .pre) (s .match .keys8) (c .entry8 .ensures)
+unfolding table
+returns-8 c = let s = c .before .before .before in select-bytes 7 _ _ (s .before .pre) (s .match .keys8) (c .entry8 .ensures)
 
 returns-9 : tie.Need-returns-9
-unfolding entries
-returns-9 c = let s = c .before .before .before in rowed 8 _ _ (s .before .pre) (s .match .keys9) (c .entry9 .ensures)
+unfolding table
+returns-9 c = let s = c .before .before .before in select-bytes 8 _ _ (s .before .pre) (s .match .keys9) (c .entry9 .ensures)
 
 returns-10 : tie.Need-returns-10
-unfolding entries
-returns-10 c = let s = c .before .before .before in rowed 9 _ _ (s .before .pre) (s .match .keys10) (c .entry10 .ensures)
+unfolding table
+returns-10 c = let s = c .before .before .before in select-bytes 9 _ _ (s .before .pre) (s .match .keys10) (c .entry10 .ensures)
 
 returns-11 : tie.Need-returns-11
-unfolding entries
-returns-11 c = let s = c .before .before .before in rowed 10 _ _ (s .before .pre) (s .match .keys11) (c .entry11 .ensures)
+unfolding table
+returns-11 c = let s = c .before .before .before in select-bytes 10 _ _ (s .before .pre) (s .match .keys11) (c .entry11 .ensures)
 
 returns-12 : tie.Need-returns-12
-unfolding entries
-returns-12 c = let s = c .before .before .before in rowed 11 _ _ (s .before .pre) (s .match .keys12) (c .entry12 .ensures)
+unfolding table
+returns-12 c = let s = c .before .before .before in select-bytes 11 _ _ (s .before .pre) (s .match .keys12) (c .entry12 .ensures)
 
 returns-13 : tie.Need-returns-13
-unfolding entries
-returns-13 c = let s = c .before .before .before in rowed 12 _ _ (s .before .pre) (s .match .keys13) (c .entry13 .ensures)
+unfolding table
+returns-13 c = let s = c .before .before .before in select-bytes 12 _ _ (s .before .pre) (s .match .keys13) (c .entry13 .ensures)
 
 returns-14 : tie.Need-returns-14
-unfolding entries
-returns-14 c = let s = c .before .before .before in rowed 13 _ _ (s .before .pre) (s .match .keys14) (c .entry14 .ensures)
+unfolding table
+returns-14 c = let s = c .before .before .before in select-bytes 13 _ _ (s .before .pre) (s .match .keys14) (c .entry14 .ensures)
 
 returns-15 : tie.Need-returns-15
-unfolding entries
-returns-15 c = let s = c .before .before .before in rowed 14 _ _ (s .before .pre) (s .match .keys15) (c .entry15 .ensures)
+unfolding table
+returns-15 c = let s = c .before .before .before in select-bytes 14 _ _ (s .before .pre) (s .match .keys15) (c .entry15 .ensures)
 
 returns-16 : tie.Need-returns-16
-unfolding entries
-returns-16 c = let s = c .before .before .before in rowed 15 _ _ (s .before .pre) (omega (arith, past (s .before .args .b / 16) 15 (s .match .rest))) (c .entry16 .ensures)
+unfolding table
+returns-16 c = let s = c .before .before .before in select-bytes 15 _ _ (s .before .pre) (omega (arith, past (s .before .args .b / 16) 15 (s .match .rest))) (c .entry16 .ensures)
 
-pub row-spec : {M : Type 1} → statement M
-row-spec =
+pub entries-spec : {M : Type 1} → statement M
+entries-spec =
     tie.close
     (tie.spec
     sub-entry

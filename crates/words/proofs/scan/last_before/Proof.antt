@@ -1,12 +1,12 @@
--- `words::scan::back` meets its contract: the word of i with its bits from i on cleared, then the words before it. Assumes nothing.
+-- `words::scan::last_before` meets its contract: the word of i with its bits from i on cleared, then the words before it. Assumes nothing.
 use mathlib.Core.Logic.{⊎-elim}
 use Prim.Native.Nat.{ℕ, _*_, _/_}
 use native.Mathlib.Omega.{arith}
 use borrow.Author.Needs.{needs}
 use Rattle.words.specs.Bits.{bitAt}
 use Rattle.words.proofs.ScanLaws.{Clear, back-from, marked-under, marked-none, marked-last}
-use Rattle.words.proofs.scan.back.Statement.{statement}
-use Rattle.words.proofs.scan.back.Tie as tie
+use Rattle.words.proofs.scan.last_before.Statement.{statement}
+use Rattle.words.proofs.scan.last_before.Tie as tie
 
 mul-matches : tie.Need-mul-matches
 mul-matches c = search needs
@@ -62,8 +62,8 @@ returns-2 c =
     back-from (bitAt (s .words .now)) (s .v) (s .i) (64 * (s .i / 64)) (c .last-in-words .result) (omega arith) (passed (c .before))
     (c .last-in-words .ensures)
 
-pub back-spec : {M : Type 1} → statement M
-back-spec =
+pub last-before-spec : {M : Type 1} → statement M
+last-before-spec =
     tie.close
     (tie.spec
     mul-matches
