@@ -2,9 +2,11 @@
 -- Assumes nothing.
 use mathlib.Core.Path.{_≡_}
 use mathlib.Core.Bool.{cond}
+use mathlib.Core.List.{List}
 use Prim.Native.Nat.{ℕ, suc, _≤_, _<_}
 use lib.Dec.{leb}
-use Rattle.words.specs.Bits.{bit}
+use lib.ListN.{length}
+use Rattle.words.specs.Bits.{bit, bitAt}
 use Rattle.words.specs.Strip.{holds}
 use Rattle.words.specs.Words.{byteOf, selectIn}
 
@@ -13,6 +15,13 @@ pub record Written (x a e b r : ℕ) : Type 0 where
   pub inside : (p : ℕ) → a ≤ p → p < e → bit r p ≡ b
   pub under : (p : ℕ) → p < a → bit r p ≡ bit x p
   pub over : (p : ℕ) → e ≤ p → bit r p ≡ bit x p
+
+-- vs is the words ws with the positions from a to e - 1 made b
+pub record RangePut (ws : List ℕ) (a e b : ℕ) (vs : List ℕ) : Type 0 where
+  pub long : length vs ≡ length ws
+  pub inside : (p : ℕ) → a ≤ p → p < e → bitAt vs p ≡ b
+  pub under : (p : ℕ) → p < a → bitAt vs p ≡ bitAt ws p
+  pub over : (p : ℕ) → e ≤ p → bitAt vs p ≡ bitAt ws p
 
 -- the ones of r are the bits of x that equal v
 abbrev pub Matched : ℕ → ℕ → ℕ → Type 0

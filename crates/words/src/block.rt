@@ -1,8 +1,14 @@
 // A block: 512 bits, eight words.
 ghost use mathlib.Core.Path.{_≡_};
+ghost use Prim.Native.Nat.{_+_, _-_, _*_, _^_, _≤_, min};
 ghost use lib.ListN.{length};
-ghost use Rattle.words.specs.Bits.{bitAt, ones};
+ghost use Rattle.words.specs.Bits.{bit, bitAt, ones};
+ghost use Rattle.words.specs.Strip.{rankOf, selectOf};
+ghost use Rattle.words.specs.Words.{placeIn};
+use super::bits::low_mask;
+use super::bits::matches;
 use super::bits::ones_of;
+use super::select::select_value;
 
 // The ones of a block.
 pub fn block_ones(block: &[u64]) -> usize
@@ -14,4 +20,68 @@ pub fn block_ones(block: &[u64]) -> usize
         sum += ones_of(block[j]);
     }
     sum
+}
+
+// The mask of those bits of word j that lie below position m.
+fn word_mask(m: usize, j: usize) -> u64
+    ensures { λ r. ⌜ r ≡ 2 ^ min 64 (m - 64 * j) - 1 ⌝ }
+{
+    let q = m / 64;
+    if j < q {
+        return 0xffff_ffff_ffff_ffff;
+    }
+    if j == q { low_mask(m % 64) } else { 0 }
+}
+
+// The ones among the first m bits of a block: all eight words, each masked, so that no branch depends on m.
+pub fn block_rank(block: &[u64], m: usize) -> usize
+    requires { ⌜ (length (now block) ≡ 8) × (m ≤ 512) ⌝ }
+    ensures { λ r. ⌜ r ≡ ones (bitAt (now (block .entry))) m ⌝ }
+{
+    let mut sum: usize = 0;
+    for j in 0..8 {
+        sum += ones_of(block[j] & word_mask(m, j));
+    }
+    sum
+}
+
+// The number of v in a word.
+fn word_count(x: u64, v: u64) -> usize
+    requires { ⌜ v ≤ 1 ⌝ }
+    ensures { λ r. ⌜ (r ≤ 64) × (r ≡ rankOf (bit x) v 64) ⌝ }
+{
+    ones_of(matches(x, v))
+}
+
+// The number of v in word j and the next.
+fn pair_count(block: &[u64], j: usize, v: u64) -> usize
+    requires { ⌜ (j + 2 ≤ length (now block)) × (v ≤ 1) ⌝ }
+    ensures { λ r. ⌜ (r ≤ 128) × (rankOf (bitAt (now (block .entry))) v (64 * j) + r ≡ rankOf (bitAt (now (block .entry))) v (64 * (j + 2))) ⌝ }
+{
+    word_count(block[j], v) + word_count(block[j + 1], v)
+}
+
+// The position of the k-th v in a block, k from 0, or 512 where it has too few: the four, the two and the one word that hold it, by halving.
+pub fn block_select(block: &[u64], v: u64, k: usize) -> usize
+    requires { ⌜ (length (now block) ≡ 8) × (v ≤ 1) ⌝ }
+    ensures { λ r. ⌜ r ≡ placeIn 512 (selectOf (bitAt (now (block .entry))) 512 v k) ⌝ }
+{
+    let mut j: usize = 0;
+    let mut left = k;
+    let four = pair_count(block, 0, v) + pair_count(block, 2, v);
+    if four <= left {
+        j += 4;
+        left -= four;
+    }
+    let two = pair_count(block, j, v);
+    if two <= left {
+        j += 2;
+        left -= two;
+    }
+    let one = word_count(block[j], v);
+    if one <= left {
+        j += 1;
+        left -= one;
+    }
+    64 * j + select_value(block[j], v, left)
 }

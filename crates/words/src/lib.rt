@@ -1,6 +1,7 @@
 // The word layer.
 pub mod bits;
 pub mod block;
+pub mod fill;
 pub mod handle;
 pub mod lanes;
 pub mod refusal;

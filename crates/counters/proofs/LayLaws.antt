@@ -1,0 +1,560 @@
+-- Laws of laying and checking: what a node's children hold, a node's counters from that, and the levels laid one above the other.
+-- Assumes nothing.
+use mathlib.Core.Path.{_≡_, refl, sym, ap, ap₂, _∙_, subst, fun-ext}
+use mathlib.Core.Bool.{Bool, true, false, not}
+use mathlib.Core.Logic.{_⊎_, inl, inr}
+use mathlib.Core.List.{List}
+use Prim.Native.Nat.{ℕ, zero, suc, _+_, _-_, _*_, _/_, _%_, _^_, _≤_, _<_, zero-le}
+use native.Mathlib.Nat.{mul-zero, mul-assoc, mul-comm, mul-le-mul-left, mod-eq-of-lt, mod-add-mod, add-mod, le-refl}
+use native.Mathlib.Numerals.{add-one}
+use native.Mathlib.Omega.{arith}
+use lib.Dec.{lit<}
+use borrow.Author.Count.{below-more}
+use borrow.Author.Tests.{lt-ltb, le-ltb, not-true, not-false}
+use lib.ListN.{length, getD, set, take, drop, length-set, List·getD-eq-default}
+use lib.Seq.{ext-getD, getD-set-other}
+use Rattle.words.specs.Bits.{bit, bitAt, ones, listOf}
+use Rattle.words.proofs.Sums.{lt-or, ones-zero, ones-more, ones-split, ones-ext, ones-const, ones-le, length-listOf, getD-listOf}
+use Rattle.words.proofs.BitLaws.{bit-high}
+use Rattle.words.proofs.WordLaws.{bitAt-le}
+use Rattle.counters.specs.Tree.{nodes, height, childBits, childOnes, fromChild, toChild, counter, counterCount, total, indexOf}
+use Rattle.counters.specs.Working.{nodeFrom, nodeOnes, LevelFits, AllFit, Decides}
+use Rattle.counters.specs.Laying.{NodeAt, NodeLaid, childrenOf, LevelFrom}
+use Rattle.counters.proofs.TreeLaws.{nodes-zero, nodes-suc, nodes-more, nodes-pos, nodes-root, height-pos, childBits-one, childBits-suc, prefix, prefix-zero, prefix-up, prefix-suc, from-summary, to-summary, from-key, to-key, from-to, counter-prefix, start, index-is, start-next, start-zero, total-mono}
+use Rattle.counters.proofs.LaidLaws.{ones-bound, counter-lt}
+use Rattle.counters.proofs.SpliceLaws.{part-at, set-more, splice, splice-length, splice-below, splice-in, splice-above}
+
+-- ---- the ones of a block
+-- bit p of n words from word k on
+pub part-bit : (ws : List ℕ) (k n p : ℕ) → p < 64 * n → bitAt (take n (drop k ws)) p ≡ bitAt ws (64 * k + p)
+part-bit ws k n p h =
+    ap (λ (w : ℕ). bit w (p % 64)) (part-at ws k n (p / 64) (omega arith))
+    ∙ ap₂ (λ (a b : ℕ). bit (getD ws a 0) b) (omega arith) (omega arith)
+
+-- the words of block m hold its ones
+pub block-there : (ws : List ℕ) (m k : ℕ) → k ≡ 8 → ones (bitAt (take k (drop (8 * m) ws))) 512 ≡ childOnes (bitAt ws) 1 m
+unfolding childOnes
+block-there ws m k e =
+    ones-ext (bitAt (take k (drop (8 * m) ws))) (λ p. bitAt ws (512 * m + p)) 512
+    (λ p h. part-bit ws (8 * m) k p (omega arith) ∙ ap (bitAt ws) (omega arith))
+    ∙ ap (λ (b : ℕ). ones (λ p. bitAt ws (b * m + p)) b) (sym childBits-one)
+
+-- the bits past the words are 0
+pub bits-past : (ws : List ℕ) (p : ℕ) → 64 * length ws ≤ p → bitAt ws p ≡ 0
+bits-past ws p h =
+    ap (λ (w : ℕ). bit w (p % 64)) (List·getD-eq-default ws 0 {n = p / 64} (omega arith)) ∙ bit-high 0 0 (p % 64) (lit< tt) zero-le
+
+-- bits that are 0 from c on: no ones from a on
+ones-past : (f : ℕ → ℕ) (c a n : ℕ) → ((p : ℕ) → c ≤ p → f p ≡ 0) → c ≤ a → ones (λ p. f (a + p)) n ≡ 0
+ones-past f c a n past h = ones-const (λ p. f (a + p)) 0 n (λ p l. past (a + p) (omega arith)) ∙ mul-zero n
+
+-- so their sum stays
+ones-flat : (f : ℕ → ℕ) (c k : ℕ) → ((p : ℕ) → c ≤ p → f p ≡ 0) → c ≤ k → ones f k ≡ ones f c
+ones-flat f c k past h =
+    let e : c + (k - c) ≡ k = omega arith in
+    omega (arith, ones-past f c c (k - c) past (le-refl c), ap (ones f) e, ones-split f c (k - c))
+
+-- and a child past them holds none
+pub child-past : (f : ℕ → ℕ) (c t m : ℕ) → ((p : ℕ) → c ≤ p → f p ≡ 0) → c ≤ childBits t * m → childOnes f t m ≡ 0
+unfolding childOnes
+child-past f c t m past h = ones-past f c (childBits t * m) (childBits t) past h
+
+-- a block holds at most 512 ones
+pub block-le : (ws : List ℕ) (m : ℕ) → childOnes (bitAt ws) 1 m ≤ 512
+unfolding childOnes
+block-le ws m =
+    omega (arith, ones-le (λ p. bitAt ws (childBits 1 * m + p)) (childBits 1) (λ p. bitAt-le ws (childBits 1 * m + p)), childBits-one)
+
+-- a block that is not there
+pub block-past : (ws : List ℕ) (m : ℕ) → length ws % 8 ≡ 0 → length ws < 8 * m + 8 → childOnes (bitAt ws) 1 m ≡ 0
+block-past ws m whole h =
+    child-past (bitAt ws) (64 * length ws) 1 m (bits-past ws) (rw childBits-one (omega arith))
+
+-- ---- the ones of a node, by its last summary and its last key
+-- a node that is there
+pub node-there : (xs : List ℕ) (from count m : ℕ) → m < count
+    → nodeOnes xs from count m ≡ (getD xs (from + 72 * m + 7) 0 + getD xs (from + 72 * m + 71) 0) % 2 ^ 32
+unfolding nodeOnes
+node-there xs from count m h = simp (lt-ltb m count h)
+
+-- a node that is not there
+pub node-past : (xs : List ℕ) (from count m : ℕ) → count ≤ m → nodeOnes xs from count m ≡ 0
+unfolding nodeOnes
+node-past xs from count m h = simp (le-ltb m count h)
+
+-- counters that agree from the level's start on, the same numbers
+pub nodeOnes-ext : (xs ys : List ℕ) (from count m : ℕ) → ((x : ℕ) → from ≤ x → getD ys x 0 ≡ getD xs x 0)
+    → nodeOnes ys from count m ≡ nodeOnes xs from count m
+nodeOnes-ext xs ys from count m agree = go (lt-or m count)
+  where
+    go : (m < count) ⊎ (count ≤ m) → nodeOnes ys from count m ≡ nodeOnes xs from count m
+    go (inl l) =
+        node-there ys from count m l
+        ∙ ap₂ (λ (a b : ℕ). (a + b) % 2 ^ 32) (agree (from + 72 * m + 7) (omega arith)) (agree (from + 72 * m + 71) (omega arith))
+        ∙ sym (node-there xs from count m l)
+    go (inr l) = node-past ys from count m l ∙ sym (node-past xs from count m l)
+
+-- ---- the counters of a node from its children's numbers
+-- the numbers of a list, summed
+abbrev pub sums : List ℕ → ℕ → ℕ
+sums ts = ones (λ m. getD ts m 0)
+
+-- one more number, wrapped
+pub sums-more : (ts : List ℕ) (i : ℕ) → (sums ts i % 2 ^ 32 + getD ts i 0) % 2 ^ 32 ≡ sums ts (i + 1) % 2 ^ 32
+sums-more ts i =
+    mod-add-mod (sums ts i) (2 ^ 32) (getD ts i 0) ∙ ap (λ (s : ℕ). s % 2 ^ 32) (sym (ones-more (λ m. getD ts m 0) i))
+
+-- a part's sum
+pub part-sums : (ts : List ℕ) (a n i : ℕ) → i ≤ n → sums (take n (drop a ts)) i ≡ ones (λ m. getD ts (a + m) 0) i
+part-sums ts a n i h =
+    ones-ext (λ m. getD (take n (drop a ts)) m 0) (λ m. getD ts (a + m) 0) i (λ m l. part-at ts a n m (omega arith))
+
+-- a part's sum added to the sum before it, wrapped
+pub sums-part : (ts : List ℕ) (a n : ℕ) → (sums ts a % 2 ^ 32 + sums (take n (drop a ts)) n % 2 ^ 32) % 2 ^ 32 ≡ sums ts (a + n) % 2 ^ 32
+sums-part ts a n =
+    sym (add-mod (sums ts a) (sums (take n (drop a ts)) n) (2 ^ 32))
+    ∙ ap (λ (s : ℕ). (sums ts a + s) % 2 ^ 32) (part-sums ts a n n (le-refl n))
+    ∙ ap (λ (s : ℕ). s % 2 ^ 32) (sym (ones-split (λ m. getD ts m 0) a n))
+
+-- counter i, of the k children from a on
+from-children : (ts : List ℕ) (i a k : ℕ) → fromChild i ≡ a → toChild i ≡ a + k → nodeFrom ts i ≡ ones (λ m. getD ts (a + m) 0) k % 2 ^ 32
+unfolding nodeFrom
+from-children ts i a k p q =
+    let e : toChild i - fromChild i ≡ k = omega arith in
+    ap₂ (λ (x y : ℕ). ones (λ m. getD ts (x + m) 0) y % 2 ^ 32) p e
+
+-- summary g is the sum of the groups before
+pub from-groups : (ts : List ℕ) (g : ℕ) → g < 8 → nodeFrom ts g ≡ sums ts (8 * g) % 2 ^ 32
+from-groups ts g h =
+    from-children ts g 0 (8 * g) (from-summary g h) (omega (arith, to-summary g h))
+    ∙ ap (λ (s : ℕ). s % 2 ^ 32)
+    (ones-ext (λ m. getD ts (0 + m) 0) (λ m. getD ts m 0) (8 * g) (λ m l. ap (λ (k : ℕ). getD ts k 0) (omega arith)))
+
+-- key i of group g is the sum of the group up to it
+pub from-group : (ts : List ℕ) (g i : ℕ) → i < 8 → nodeFrom ts (8 + (8 * g + i)) ≡ sums (take 8 (drop (8 * g) ts)) (i + 1) % 2 ^ 32
+from-group ts g i h =
+    from-children ts (8 + (8 * g + i)) (8 * g) (i + 1) (omega (arith, from-key (8 * g + i))) (omega (arith, to-key (8 * g + i)))
+    ∙ ap (λ (s : ℕ). s % 2 ^ 32) (sym (part-sums ts (8 * g) 8 (i + 1) (omega arith)))
+
+-- the groups before g of a node are laid, and `sum` is their sum
+pub record Groups (ts xs : List ℕ) (g sum : ℕ) : Type 0 where
+  pub size : length xs ≡ 72
+  pub summed : sum ≡ sums ts (8 * g) % 2 ^ 32
+  pub summaries : (i : ℕ) → i < g → getD xs i 0 ≡ nodeFrom ts i
+  pub keys : (c : ℕ) → c < 8 * g → getD xs (8 + c) 0 ≡ nodeFrom ts (8 + c)
+
+-- no group yet
+pub groups-none : (ts xs : List ℕ) → length xs ≡ 72 → Groups ts xs 0 0
+groups-none ts xs size =
+    record {
+      size = size;
+      summed = sym (ap (λ (s : ℕ). s % 2 ^ 32) (ones-zero (λ m. getD ts m 0)));
+      summaries = (λ i l. absurd (omega arith));
+      keys = (λ c l. absurd (omega arith));
+    }
+
+-- group g: its summary is stored, its keys are laid over a part that was lent, and its sum is added
+pub groups-more : {ts xs : List ℕ} {g sum : ℕ} → Groups ts xs g sum → g < 8 → (ys : List ℕ) (part r k n : ℕ) → n ≡ 8 → k ≡ 8
+    → length ys ≡ length (take k (drop (8 * g + 8) (set xs g sum)))
+    → ((i : ℕ) → i < 8 → getD ys i 0 ≡ sums (take n (drop (8 * g) ts)) (i + 1) % 2 ^ 32) → part ≡ sums (take n (drop (8 * g) ts)) 8 % 2 ^ 32
+    → r ≡ (sum + part) % 2 ^ 32 → Groups ts (splice (set xs g sum) (8 * g + 8) ys k) (g + 1) r
+groups-more {ts} {xs} {g} {sum} G l ys part r k n is eight kept made added e =
+    record {
+      size = splice-length zs (8 * g + 8) ys k kept room ∙ length-set xs g sum ∙ G .size;
+      summed = e
+          ∙ ap₂ (λ (a b : ℕ). (a + b) % 2 ^ 32) (G .summed) (added ∙ ap (λ (j : ℕ). sums (take j (drop (8 * g) ts)) 8 % 2 ^ 32) is)
+          ∙ sums-part ts (8 * g) 8
+          ∙ ap (λ (j : ℕ). sums ts j % 2 ^ 32) (omega arith);
+      summaries = (λ i h.
+          splice-below zs (8 * g + 8) ys k kept room i (omega arith)
+          ∙ set-more (nodeFrom ts) xs g sum (omega (arith, G .size)) (G .summaries) (G .summed ∙ sym (from-groups ts g l)) i h);
+      keys = (λ c h. key c (lt-or c (8 * g)) h);
+    }
+  where
+    zs : List ℕ
+    zs = set xs g sum
+
+    room : 8 * g + 8 + k ≤ length zs
+    room = omega (arith, length-set xs g sum, G .size)
+
+    key : (c : ℕ) → (c < 8 * g) ⊎ (8 * g ≤ c) → c < 8 * (g + 1) → getD (splice zs (8 * g + 8) ys k) (8 + c) 0 ≡ nodeFrom ts (8 + c)
+    key c (inl h) q =
+        splice-below zs (8 * g + 8) ys k kept room (8 + c) (omega arith)
+        ∙ getD-set-other xs g (8 + c) sum 0 (λ u. omega arith)
+        ∙ G .keys c h
+    key c (inr h) q =
+        let i : ℕ = c - 8 * g in
+        let a : 8 + c ≡ 8 * g + 8 + i = omega arith in
+        let b : 8 + (8 * g + i) ≡ 8 + c = omega arith in
+        ap (λ (x : ℕ). getD (splice zs (8 * g + 8) ys k) x 0) a
+        ∙ splice-in zs (8 * g + 8) ys k kept room i (omega arith)
+        ∙ made i (omega arith)
+        ∙ ap (λ (j : ℕ). sums (take j (drop (8 * g) ts)) (i + 1) % 2 ^ 32) is
+        ∙ sym (from-group ts g i (omega arith))
+        ∙ ap (nodeFrom ts) b
+
+-- all eight groups: all counters
+pub groups-done : {ts xs : List ℕ} {g sum : ℕ} → Groups ts xs g sum → 8 ≤ g → (i : ℕ) → i < 72 → getD xs i 0 ≡ nodeFrom ts i
+groups-done {ts} {xs} G h i l = go (lt-or i 8)
+  where
+    go : (i < 8) ⊎ (8 ≤ i) → getD xs i 0 ≡ nodeFrom ts i
+    go (inl q) = G .summaries i (omega arith)
+    go (inr q) =
+        let e : 8 + (i - 8) ≡ i = omega arith in
+        subst (λ (k : ℕ). getD xs k 0 ≡ nodeFrom ts k) e (G .keys (i - 8) (omega arith))
+
+-- ---- tests
+-- a test that failed, as the code asks it
+decides-no : (b : Bool) (A : Type 0) → Decides b A → not b ≡ true → A → ⊥
+decides-no b A d e = subst (λ (x : Bool). Decides x A) (not-true b e) d
+
+-- and one that held
+decides-yes : (b : Bool) (A : Type 0) → Decides b A → not b ≡ false → A
+decides-yes b A d e = subst (λ (x : Bool). Decides x A) (not-false b e) d
+
+-- ---- a level from its children's numbers
+-- a node's children, by their numbers
+children-are : (h : ℕ → ℕ) (ts : List ℕ) (j : ℕ) → length ts ≡ 64 → ((c : ℕ) → c < 64 → getD ts c 0 ≡ h (64 * j + c)) → ts ≡ childrenOf h j
+unfolding childrenOf
+children-are h ts j size each =
+    ext-getD 0 ts (listOf (λ c. h (64 * j + c)) 64) (size ∙ sym (length-listOf (λ c. h (64 * j + c)) 64))
+    (λ c l. each c (omega arith) ∙ sym (getD-listOf (λ c. h (64 * j + c)) 64 c (omega arith)))
+
+-- a node laid over a part that was lent
+pub node-laid : (ts xs ys : List ℕ) (at j k : ℕ) → k ≡ 72 → at + 72 * j + 72 ≤ length xs → length ys ≡ length (take k (drop (at + 72 * j) xs))
+    → ((i : ℕ) → i < 72 → getD ys i 0 ≡ nodeFrom ts i) → NodeLaid ts at j xs (splice xs (at + 72 * j) ys k)
+node-laid ts xs ys at j k is room kept made =
+    record {
+      inside = (λ i l. splice-in xs (at + 72 * j) ys k kept (omega arith) i (omega arith) ∙ made i l);
+      under = (λ x l. splice-below xs (at + 72 * j) ys k kept (omega arith) x l);
+      over = (λ x l. splice-above xs (at + 72 * j) ys k kept (omega arith) x (omega arith));
+    }
+
+-- a node, as a part of the counters, compared with what is laid for these numbers
+pub node-compared : (b : Bool) (ts xs ys : List ℕ) (at j k : ℕ) → k ≡ 72 → ((i : ℕ) → i < 72 → getD ys i 0 ≡ nodeFrom ts i)
+    → Decides b ((i : ℕ) → i < 72 → getD (take k (drop (at + 72 * j) xs)) i 0 ≡ getD ys i 0) → Decides b (NodeAt ts at j xs)
+node-compared true ts xs ys at j k is made d =
+    λ i l. sym (part-at xs (at + 72 * j) k i (omega arith)) ∙ d i l ∙ made i l
+node-compared false ts xs ys at j k is made d =
+    λ a. d (λ i l. part-at xs (at + 72 * j) k i (omega arith) ∙ a i l ∙ sym (made i l))
+
+-- no node yet
+pub level-none : (h : ℕ → ℕ) (xs : List ℕ) (at : ℕ) → LevelFrom h xs at 0
+level-none h xs at j l = absurd (omega arith)
+
+-- node n, whose children have the numbers ts
+module _ (h : ℕ → ℕ) (ts : List ℕ) (n : ℕ) (size : length ts ≡ 64) (each : (c : ℕ) → c < 64 → getD ts c 0 ≡ h (64 * n + c)) where
+  -- one node more
+  level-more : (xs : List ℕ) (at : ℕ) → LevelFrom h xs at n → NodeAt ts at n xs → LevelFrom h xs at (n + 1)
+  level-more xs at low here =
+      below-more (λ j. NodeAt (childrenOf h j) at j xs) n low
+      (subst (λ (us : List ℕ). NodeAt us at n xs) (children-are h ts n size each) here)
+
+  -- one node more is laid
+  pub level-laid : {xs ys : List ℕ} {at : ℕ} → NodeLaid ts at n xs ys → LevelFrom h xs at n → LevelFrom h ys at (n + 1)
+  level-laid {xs} {ys} {at} L low =
+      level-more ys at (λ j l i q. L .under (at + 72 * j + i) (omega arith) ∙ low j l i q) (L .inside)
+
+  -- it is compared
+  module _ (xs : List ℕ) (at : ℕ) (b : Bool) (d : Decides b (NodeAt ts at n xs)) where
+    -- a node that is not as laid
+    pub level-no : (count : ℕ) → n < count → not b ≡ true → LevelFrom h xs at count → ⊥
+    level-no count l u laid =
+        decides-no b (NodeAt ts at n xs) d u (subst (λ (us : List ℕ). NodeAt us at n xs) (sym (children-are h ts n size each)) (laid n l))
+
+    -- one node more is as laid
+    pub level-yes : not b ≡ false → LevelFrom h xs at n → LevelFrom h xs at (n + 1)
+    level-yes u low = level-more xs at low (decides-yes b (NodeAt ts at n xs) d u)
+
+-- what stands after a node that is laid stays
+pub level-keeps : (zs : List ℕ) (from : ℕ) {ts xs ys : List ℕ} {at n : ℕ} → NodeLaid ts at n xs ys → at + 72 * n + 72 ≤ from
+    → ((x : ℕ) → from ≤ x → getD xs x 0 ≡ getD zs x 0) → (x : ℕ) → from ≤ x → getD ys x 0 ≡ getD zs x 0
+level-keeps zs from L l same x q = L .over x (omega arith) ∙ same x q
+
+-- equal numbers, equal levels
+level-ext : (g h : ℕ → ℕ) (xs : List ℕ) (at n : ℕ) → ((m : ℕ) → g m ≡ h m) → LevelFrom g xs at n → LevelFrom h xs at n
+level-ext g h xs at n e = subst (λ (k : ℕ → ℕ). LevelFrom k xs at n) (fun-ext e)
+
+-- ---- the levels as defined
+-- bits that are 0 from block n on
+pub record Bounded (f : ℕ → ℕ) (n : ℕ) : Type 0 where
+  pub small : (p : ℕ) → f p ≤ 1
+  pub past : (p : ℕ) → 512 * n ≤ p → f p ≡ 0
+  pub some : 0 < n
+  pub few : n ≤ 262144
+
+-- the bits of n blocks of words
+pub bounded : (ws : List ℕ) (n : ℕ) → length ws ≡ 8 * n → 0 < n → n ≤ 262144 → Bounded (bitAt ws) n
+bounded ws n e p l = record { small = bitAt-le ws; past = (λ q h. bits-past ws q (omega arith)); some = p; few = l }
+
+-- a node's counters, from its children's ones, are as defined
+pub from-counter : (f : ℕ → ℕ) (n t j i : ℕ) → Bounded f n → i < 72 → nodeFrom (childrenOf (childOnes f t) j) i ≡ counter f t j i
+unfolding nodeFrom childrenOf counter
+from-counter f n t j i B h =
+    ap (λ (s : ℕ). s % 2 ^ 32) sum ∙ mod-eq-of-lt (counter-lt f t j i h (B .small) (λ p l. B .past p (omega (arith, B .few))))
+  where
+    sum : ones (λ m. getD (listOf (λ c. childOnes f t (64 * j + c)) 64) (fromChild i + m) 0) (toChild i - fromChild i)
+        ≡ ones (λ m. childOnes f t (64 * j + fromChild i + m)) (toChild i - fromChild i)
+    sum =
+        ones-ext (λ m. getD (listOf (λ c. childOnes f t (64 * j + c)) 64) (fromChild i + m) 0) (λ m. childOnes f t (64 * j + fromChild i + m))
+        (toChild i - fromChild i)
+        (λ m l.
+        getD-listOf (λ c. childOnes f t (64 * j + c)) 64 (fromChild i + m) (omega (arith, from-to i h)) ∙ ap (childOnes f t) (omega arith))
+
+-- 512 n bits reach no further than the nodes of a level
+pub nodes-cover : (n t : ℕ) → 512 * n ≤ childBits (suc t) * nodes n t
+nodes-cover n zero = omega (arith, ap₂ (λ (a b : ℕ). a * b) childBits-one (nodes-zero n))
+nodes-cover n (suc t) =
+    let b : ℕ = childBits (suc t) in
+    let up : nodes n t ≤ 64 * nodes n (suc t) = omega (arith, nodes-suc n t) in
+    let e : childBits (suc (suc t)) * nodes n (suc t) ≡ b * (64 * nodes n (suc t)) =
+    ap (λ (x : ℕ). x * nodes n (suc t)) (childBits-suc t ∙ mul-comm 64 b) ∙ mul-assoc b 64 (nodes n (suc t)) in
+    omega (arith, nodes-cover n t, mul-le-mul-left b up, e)
+
+-- the ones of a node that fits, by its counters 7 and 71
+pub counter-ones : (f : ℕ → ℕ) (t m : ℕ) → counter f (suc t) m 7 + counter f (suc t) m 71 ≡ childOnes f (suc (suc t)) m
+counter-ones f t m =
+    let a : 64 * m + fromChild 7 ≡ 64 * m = omega (arith, from-summary 7 (lit< tt)) in
+    let b : 64 * m + toChild 7 ≡ 64 * m + fromChild 71 = omega (arith, to-summary 7 (lit< tt), from-key 63) in
+    let e : 64 * m + toChild 71 ≡ 64 * suc m = omega (arith, to-key 63) in
+    omega (
+      arith,
+      counter-prefix f (suc t) m 7 (lit< tt),
+      counter-prefix f (suc t) m 71 (lit< tt),
+      ap (prefix f (suc t)) a,
+      ap (prefix f (suc t)) b,
+      ap (prefix f (suc t)) e,
+      prefix-up f t m,
+      prefix-up f t (suc m),
+      prefix-suc f (suc (suc t)) m,
+    )
+
+-- over n blocks
+module _ (f : ℕ → ℕ) (n : ℕ) (B : Bounded f n) where
+  -- a child's ones are below 2 ^ 32
+  childOnes-lt : (t m : ℕ) → childOnes f t m < 2 ^ 32
+  childOnes-lt t m = omega (arith, prefix-suc f t m, ones-bound f (512 * n) (childBits t * suc m) (B .small) (B .past), B .few)
+
+  -- the nodes of a level that fits hold the ones of the children of the next
+  pub level-ones : (xs : List ℕ) (t m : ℕ) → LevelFits f n xs (suc t)
+      → nodeOnes xs (start n (suc t)) (nodes n (suc t)) m ≡ childOnes f (suc (suc t)) m
+  level-ones xs t m fits = go (lt-or m (nodes n (suc t)))
+    where
+      go : (m < nodes n (suc t)) ⊎ (nodes n (suc t) ≤ m) → nodeOnes xs (start n (suc t)) (nodes n (suc t)) m ≡ childOnes f (suc (suc t)) m
+      go (inl l) =
+          node-there xs (start n (suc t)) (nodes n (suc t)) m l
+          ∙ ap₂ (λ (a b : ℕ). (a + b) % 2 ^ 32) (at 7 (lit< tt)) (at 71 (lit< tt))
+          ∙ ap (λ (s : ℕ). s % 2 ^ 32) (counter-ones f t m)
+          ∙ mod-eq-of-lt (childOnes-lt (suc (suc t)) m)
+        where
+          at : (i : ℕ) → i < 72 → getD xs (start n (suc t) + 72 * m + i) 0 ≡ counter f (suc t) m i
+          at i h = ap (λ (x : ℕ). getD xs x 0) (sym (index-is n (suc t) m i)) ∙ fits m i l h
+      go (inr l) =
+          node-past xs (start n (suc t)) (nodes n (suc t)) m l
+          ∙ sym
+          (child-past f (512 * n) (suc (suc t)) m (B .past)
+          (omega (arith, nodes-cover n (suc t), mul-le-mul-left (childBits (suc (suc t))) l)))
+
+-- ---- the levels one above the other
+-- level t has `count` nodes and starts at `at`
+pub record Place (n t count at : ℕ) : Type 0 where
+  pub low : 1 ≤ t
+  pub high : t ≤ height n
+  pub counted : count ≡ nodes n t
+  pub starts : at ≡ start n t
+
+-- a level is followed by those below it
+place-room : (n t count at : ℕ) → Place n t count at → at + 72 * count ≤ counterCount n
+place-room n zero count at P = absurd (omega (arith, P .low))
+place-room n (suc t) count at P = omega (arith, P .counted, P .starts, start-next n t (P .high))
+
+-- level 1 has at most 4,096 nodes, and the higher ones no more
+place-few : (n t count at : ℕ) → Place n t count at → n ≤ 262144 → count ≤ 4096
+place-few n t count at P few = omega (arith, P .counted, go t (P .low))
+  where
+    go : (s : ℕ) → 1 ≤ s → nodes n s ≤ 4096
+    go zero a = absurd (omega arith)
+    go (suc zero) a = omega (arith, nodes-suc n 0, nodes-zero n)
+    go (suc (suc s)) a = omega (arith, nodes-suc n (suc s), go (suc s) (omega arith))
+
+-- level 1 ends where the counters end
+first-ends : (n : ℕ) → start n 1 + 72 * ((n + 63) / 64) ≡ counterCount n
+first-ends n = omega (arith, nodes-suc n 0, nodes-zero n, start-next n 0 (height-pos n), start-zero n)
+
+-- so there is room for it
+pub first-room : (n : ℕ) → 72 * ((n + 63) / 64) ≤ counterCount n
+first-room n = omega (arith, first-ends n)
+
+-- where the code has it
+place-first : (n size : ℕ) → size ≡ counterCount n → Place n 1 ((n + 63) / 64) (size - 72 * ((n + 63) / 64))
+place-first n size e =
+    record {
+      low = le-refl 1;
+      high = height-pos n;
+      counted = omega (arith, nodes-suc n 0, nodes-zero n);
+      starts = omega (arith, first-ends n);
+    }
+
+-- the next level
+module _ (n t count at : ℕ) (P : Place n t count at) (more : t < height n) where
+  -- has so many nodes
+  next-count : (count + 63) / 64 ≡ nodes n (t + 1)
+  next-count = omega (arith, P .counted, nodes-more n t)
+
+  -- and ends where this one starts
+  next-ends : start n (t + 1) + 72 * ((count + 63) / 64) ≡ at
+  next-ends =
+      omega (arith, next-count, P .starts, start-next n t more, ap (start n) (add-one t), ap (nodes n) (add-one t))
+
+  -- as the code has it
+  place-next : Place n (t + 1) ((count + 63) / 64) (at - 72 * ((count + 63) / 64))
+  place-next = record { low = omega arith; high = omega arith; counted = next-count; starts = omega (arith, next-ends) }
+
+-- level t at its place
+module _ (f : ℕ → ℕ) (n : ℕ) (B : Bounded f n) (xs : List ℕ) (t count at : ℕ) (P : Place n t count at) where
+  -- a level laid from its children's ones fits
+  place-fits : LevelFrom (childOnes f t) xs at count → LevelFits f n xs t
+  place-fits laid j i l h =
+      let e : indexOf n t j i ≡ at + 72 * j + i = omega (arith, index-is n t j i, P .starts) in
+      ap (λ (x : ℕ). getD xs x 0) e ∙ laid j (omega (arith, P .counted)) i h ∙ from-counter f n t j i B h
+
+  -- and one of counters that fit is so laid
+  place-laid : AllFit f n xs → LevelFrom (childOnes f t) xs at count
+  place-laid fits j l i h =
+      let e : at + 72 * j + i ≡ indexOf n t j i = omega (arith, index-is n t j i, P .starts) in
+      ap (λ (x : ℕ). getD xs x 0) e ∙ fits t j i (P .low) (P .high) (omega (arith, P .counted)) h ∙ sym (from-counter f n t j i B h)
+
+-- the levels 1 to t fit; level t has `count` nodes and starts at `at`
+pub record Upto (f : ℕ → ℕ) (n : ℕ) (xs : List ℕ) (t count at : ℕ) : Type 0 where
+  pub bits : Bounded f n
+  pub place : Place n t count at
+  pub size : length xs ≡ counterCount n
+  pub right : (s : ℕ) → 1 ≤ s → s ≤ t → LevelFits f n xs s
+
+-- level 1, last of `size` counters
+module _ {f : ℕ → ℕ} {n : ℕ} (B : Bounded f n) (xs : List ℕ) (size : ℕ) (e : size ≡ counterCount n) where
+  -- it is laid
+  pub upto-first : length xs ≡ size → LevelFrom (childOnes f 1) xs (size - 72 * ((n + 63) / 64)) ((n + 63) / 64)
+      → Upto f n xs 1 ((n + 63) / 64) (size - 72 * ((n + 63) / 64))
+  upto-first long laid =
+      record {
+        bits = B;
+        place = place-first n size e;
+        size = long ∙ e;
+        right = (λ s a b.
+            subst (LevelFits f n xs) (omega arith)
+            (place-fits f n B xs 1 ((n + 63) / 64) (size - 72 * ((n + 63) / 64)) (place-first n size e) laid));
+      }
+
+  -- it is compared
+  module _ (b : Bool) (d : Decides b (LevelFrom (childOnes f 1) xs (size - 72 * ((n + 63) / 64)) ((n + 63) / 64))) where
+    -- and is not as laid
+    pub first-no : not b ≡ true → AllFit f n xs → ⊥
+    first-no u fits =
+        decides-no b (LevelFrom (childOnes f 1) xs (size - 72 * ((n + 63) / 64)) ((n + 63) / 64)) d u
+        (place-laid f n B xs 1 ((n + 63) / 64) (size - 72 * ((n + 63) / 64)) (place-first n size e) fits)
+
+    -- and is as laid
+    pub first-yes : length xs ≡ size → not b ≡ false → Upto f n xs 1 ((n + 63) / 64) (size - 72 * ((n + 63) / 64))
+    first-yes long u =
+        upto-first long (decides-yes b (LevelFrom (childOnes f 1) xs (size - 72 * ((n + 63) / 64)) ((n + 63) / 64)) d u)
+
+-- the levels 1 to t fit
+module _ {f : ℕ → ℕ} {n : ℕ} {xs : List ℕ} {t count at : ℕ} (U : Upto f n xs t count at) where
+  -- level t has few nodes
+  pub upto-few : count ≤ 4096
+  upto-few = place-few n t count at (U .place) (U .bits .few)
+
+  -- and lies in the counters
+  pub upto-room : at + 72 * count ≤ length xs
+  upto-room = omega (arith, U .size, place-room n t count at (U .place))
+
+  -- there is at least one node
+  pub upto-long : 72 ≤ length xs
+  upto-long = omega (arith, upto-room, U .place .counted, nodes-pos n t (U .bits .some))
+
+  -- the nodes of level t hold the ones of the children of the next level
+  upto-children : (m : ℕ) → nodeOnes xs at count m ≡ childOnes f (t + 1) m
+  upto-children m = go t U
+    where
+      go : (s : ℕ) → Upto f n xs s count at → nodeOnes xs at count m ≡ childOnes f (s + 1) m
+      go zero W = absurd (omega (arith, W .place .low))
+      go (suc s) W =
+          ap₂ (λ (a c : ℕ). nodeOnes xs a c m) (W .place .starts) (W .place .counted)
+          ∙ level-ones f n (W .bits) xs s m (W .right (suc s) (W .place .low) (le-refl (suc s)))
+          ∙ ap (λ (k : ℕ). childOnes f k m) (sym (add-one (suc s)))
+
+  -- the next level
+  module _ (more : t < height n) where
+    -- its number of nodes
+    abbrev over : ℕ
+    over = (count + 63) / 64
+
+    -- there is room for it before level t
+    pub next-room : 72 * over ≤ at
+    next-room = omega (arith, next-ends n t count at (U .place) more)
+
+    -- its place
+    next : Place n (t + 1) over (at - 72 * over)
+    next = place-next n t count at (U .place) more
+
+    -- it is laid, and what stands from level t on is kept
+    pub upto-more : (ys : List ℕ) → length ys ≡ length xs → LevelFrom (nodeOnes xs at count) ys (at - 72 * over) over
+        → ((x : ℕ) → at ≤ x → getD ys x 0 ≡ getD xs x 0) → Upto f n ys (t + 1) over (at - 72 * over)
+    upto-more ys long laid kept =
+        record { bits = U .bits; place = next; size = long ∙ U .size; right = (λ s a b. level s a (lt-or t s) b) }
+      where
+        level : (s : ℕ) → 1 ≤ s → (t < s) ⊎ (s ≤ t) → s ≤ t + 1 → LevelFits f n ys s
+        level s a (inl l) b =
+            subst (LevelFits f n ys) (omega arith)
+            (place-fits f n (U .bits) ys (t + 1) over (at - 72 * over) next
+            (level-ext (nodeOnes xs at count) (childOnes f (t + 1)) ys (at - 72 * over) over upto-children laid))
+        level s a (inr l) b =
+            let after : at ≤ start n s = omega (arith, U .place .starts, total-mono n l) in
+            λ j i m h. kept (indexOf n s j i) (omega (arith, index-is n s j i)) ∙ U .right s a l j i m h
+
+    -- it is compared
+    module _ (b : Bool) (d : Decides b (LevelFrom (nodeOnes xs at count) xs (at - 72 * over) over)) where
+      -- and is not as laid
+      pub more-no : not b ≡ true → AllFit f n xs → ⊥
+      more-no u fits =
+          decides-no b (LevelFrom (nodeOnes xs at count) xs (at - 72 * over) over) d u
+          (level-ext (childOnes f (t + 1)) (nodeOnes xs at count) xs (at - 72 * over) over (λ m. sym (upto-children m))
+          (place-laid f n (U .bits) xs (t + 1) over (at - 72 * over) next fits))
+
+      -- and is as laid
+      pub more-yes : not b ≡ false → Upto f n xs (t + 1) over (at - 72 * over)
+      more-yes u =
+          upto-more xs refl (decides-yes b (LevelFrom (nodeOnes xs at count) xs (at - 72 * over) over) d u) (λ x h. refl)
+
+  -- level t is the root's
+  module _ (top : height n ≤ t) where
+    -- all levels fit
+    pub upto-all : AllFit f n xs
+    upto-all s j i a b l h = U .right s a (omega arith) j i l h
+
+    -- the root's ones are those of all bits
+    pub upto-ones : getD xs 7 0 + getD xs 71 0 ≡ ones f (512 * n)
+    upto-ones = go t U top
+      where
+        go : (s : ℕ) → Upto f n xs s count at → height n ≤ s → getD xs 7 0 + getD xs 71 0 ≡ ones f (512 * n)
+        go zero W h = absurd (omega (arith, W .place .low))
+        go (suc s) W h =
+            let e : suc s ≡ height n = omega (arith, W .place .high) in
+            let one : nodes n (suc s) ≡ 1 = ap (nodes n) e ∙ nodes-root n (W .bits .some) (W .bits .few) in
+            let first : start n (suc s) ≡ 0 = omega (arith, ap (total n) e) in
+            let root : (i : ℕ) → i < 72 → getD xs i 0 ≡ counter f (suc s) 0 i =
+            λ i l.
+            ap (λ (x : ℕ). getD xs x 0) (omega (arith, index-is n (suc s) 0 i, first))
+            ∙ W .right (suc s) (W .place .low) (le-refl (suc s)) 0 i (omega (arith, one)) l in
+            let cover : 512 * n ≤ childBits (suc (suc s)) * 1 =
+            omega (arith, nodes-cover n (suc s), ap (λ (k : ℕ). childBits (suc (suc s)) * k) one) in
+            omega (
+              arith,
+              root 7 (lit< tt),
+              root 71 (lit< tt),
+              counter-ones f s 0,
+              prefix-suc f (suc (suc s)) 0,
+              prefix-zero f (suc (suc s)),
+              ones-flat f (512 * n) (childBits (suc (suc s)) * 1) (W .bits .past) cover,
+            )

@@ -1,0 +1,12 @@
+pub mod TreeLaws
+pub mod FlipLaws
+pub mod LaidLaws
+pub mod SpliceLaws
+pub mod RaiseLaws
+pub mod RankLaws
+pub mod LayLaws
+pub mod SelectionLaws
+pub mod ChangeLaws
+pub mod PromiseLaws
+pub mod ReadLaws
+pub mod Examples

@@ -1,0 +1,174 @@
+-- The promise of a call, case by case: refused by its table, or passed and done. Assumes nothing.
+use mathlib.Core.Path.{_≡_, refl, sym, ap, ap₂, _∙_, subst, subst₂}
+use mathlib.Core.Bool.{Bool, true, false, cond}
+use mathlib.Core.Logic.{_⊎_, inl, inr}
+use mathlib.Core.List.{List, [], _∷_, _++_}
+use mathlib.Core.Option.{Option, some, none}
+use Prim.Native.Nat.{ℕ, _+_, _-_, _*_, _/_, _%_, _^_, _≤_, _<_}
+use native.Mathlib.Omega.{arith}
+use lib.Dec.{leb, ltb, eqb}
+use lib.ListN.{length, getD, set, take}
+use borrow.Author.Tests.{eqb-true, eq-eqb, ne-eqb, leb-false, ltb-false}
+use Rattle.words.specs.Bits.{bitAt, ones}
+use Rattle.words.specs.Strip.{cell, stripOf, PastZero, rank, rankOf, select, selectOf}
+use Rattle.words.specs.Words.{placeIn}
+use Rattle.words.specs.Refusals.{numberOf, Line, _⇒_, judge, verdictOf, unless, Told, value, refused, found}
+use Rattle.words.specs.Handles.{handle}
+use Rattle.words.specs.Calls.{valueLine, belowLine, withinLine}
+use Rattle.words.specs.Working.{RangePut}
+use Rattle.words.specs.declared.handle.Handle.{Handle}
+use Rattle.words.specs.declared.refusal.Refusal.{Refusal}
+use Rattle.words.specs.declared.refusal.Verdict.{Verdict}
+use Rattle.words.specs.declared.refusal.Verdict.the-variants.{Pass, Refuse}
+use Rattle.words.proofs.Sums.{lt-or}
+use Rattle.words.proofs.WordLaws.{bitAt-le}
+use Rattle.words.proofs.CheckLaws.{judged-refuse, passes, passed-both, Checked, checked, unless-passed}
+use Rattle.words.proofs.StripLaws.{strip-cell, strip-length, strip-rank, strip-select}
+use Rattle.words.proofs.SearchLaws.{select-exists, select-place, select-none}
+use Rattle.counters.specs.Tree.{blocksOf, height, counterCount, changed}
+use Rattle.counters.specs.Record.{Fits}
+use Rattle.counters.specs.Working.{AllFit, PathRaised}
+use Rattle.counters.specs.Promises.{MovedTold, done, Outcome, outcome, stays, Promise, Near, near, AtMost, Below}
+use Rattle.counters.specs.Calls.{checks, held, afresh, pushTable, Pushed, flipTable, Flipped, filled, fillTable, fillOutcome, truncateTable, truncateOutcome, Ranked, Selected}
+use Rattle.counters.proofs.FlipLaws.{changed-le}
+use Rattle.counters.proofs.ChangeLaws as C
+
+-- ---- the two cases of a promise
+pub promise-refused : {A : Type 0} (t : List Line) (refuse : ℕ → A) (late : A) (Fit : Type 0) (Loose : A → Type 0) (v : Verdict) (r : Refusal)
+    → verdictOf v ≡ judge t → v ≡ Refuse r → Promise A (judge t) refuse late Fit Loose (refuse (numberOf r))
+promise-refused t refuse late Fit Loose v r e d =
+    let j : judge t ≡ some (numberOf r) = judged-refuse t v r e d in
+    record {
+      early = (λ n h. let s : numberOf r ≡ n = cc in ap refuse s);
+      exact = (λ h f. let z : _≡_ {A = ℕ} 0 1 = cc in absurd (omega arith));
+      loose = (λ h. let z : _≡_ {A = ℕ} 0 1 = cc in absurd (omega arith));
+    }
+
+pub promise-passed : {A : Type 0} (t : List Line) (refuse : ℕ → A) (late : A) (Fit : Type 0) (Loose : A → Type 0) (o : A)
+    → judge t ≡ none → (Fit → o ≡ late) → Loose o → Promise A (judge t) refuse late Fit Loose o
+promise-passed t refuse late Fit Loose o j exact loose =
+    record { early = (λ n h. let z : _≡_ {A = ℕ} 0 1 = cc in absurd (omega arith)); exact = (λ h f. exact f); loose = (λ h. loose) }
+
+-- ---- what the checks leave
+pub record Sizes (h : Handle) (ws cs : List ℕ) : Type 0 where
+  pub step : h .capacity % 512 ≡ 0
+  pub least : 512 ≤ h .capacity
+  pub most : h .capacity ≤ 134217728
+  pub long : h .length ≤ h .capacity
+  pub words : length ws ≡ h .capacity / 64
+  pub counters : length cs ≡ counterCount (blocksOf (h .capacity))
+
+pub sizes : (h : Handle) (ws cs : List ℕ) → judge (checks h (length ws) (length cs)) ≡ none → Sizes h ws cs
+sizes h ws cs p =
+    let k = checked h (length ws) (eqb (length cs) (counterCount (blocksOf (h .capacity)))) p in
+    record { step = k .step; least = k .least; most = k .most; long = k .long; words = k .count; counters = eqb-true _ _ (k .counters) }
+
+-- a table that starts with the checks, and passes
+pub sizes-of : (h : Handle) (ws cs : List ℕ) (ls : List Line) → judge (checks h (length ws) (length cs) ++ ls) ≡ none → Sizes h ws cs
+sizes-of h ws cs ls p = sizes h ws cs (passed-both (checks h (length ws) (length cs)) ls p .0)
+
+-- no bit stands past the most capacity
+pub high-zero : (h : Handle) (ws cs vs : List ℕ) → Sizes h ws cs → length vs ≡ length ws → (q : ℕ) → 134217728 ≤ q → bitAt vs q ≡ 0
+high-zero h ws cs vs z l q a = C.bitAt-past vs q (omega (arith, z .words, z .most))
+
+-- ---- turn
+module _ (h : Handle) (ws vs cs ds : List ℕ) (i number d : ℕ) (z : Sizes h ws cs) (below : i < h .length)
+    (put : RangePut ws i (i + 1) (1 - bitAt ws i) vs) (small : (k : ℕ) → getD vs k 0 < 2 ^ 64)
+    (path : PathRaised (blocksOf (h .capacity)) i d cs ds) (count : number ≡ changed (blocksOf (h .capacity)) i)
+    (step : d ≡ cond (eqb (1 - bitAt ws i) 1) 1 (2 ^ 32 - 1)) where
+  -- the counters fit the changed words
+  flip-fits : AllFit (bitAt ws) (blocksOf (h .capacity)) cs → AllFit (bitAt vs) (blocksOf (h .capacity)) ds
+  flip-fits fit = go (lt-or (bitAt ws i) 1)
+    where
+      go : (bitAt ws i < 1) ⊎ (1 ≤ bitAt ws i) → AllFit (bitAt vs) (blocksOf (h .capacity)) ds
+      go (inl l) =
+          let b : 1 - bitAt ws i ≡ 1 = omega arith in
+          let up : d ≡ 1 = step ∙ simp (eq-eqb (1 - bitAt ws i) 1 b) in
+          C.raised-fits (bitAt ws) (bitAt vs) (blocksOf (h .capacity)) i cs ds
+          (C.put-more ws vs i (omega arith) (subst (λ (x : ℕ). RangePut ws i (i + 1) x vs) b put))
+          (bitAt-le vs) (high-zero h ws cs vs z (put .long)) fit (subst (λ (x : ℕ). PathRaised (blocksOf (h .capacity)) i x cs ds) up path)
+      go (inr l) =
+          let o : bitAt ws i ≡ 1 = omega (arith, bitAt-le ws i) in
+          let b : 1 - bitAt ws i ≡ 0 = omega arith in
+          let down : d ≡ 4294967295 = step ∙ simp (ne-eqb (1 - bitAt ws i) 1 (λ e. omega arith)) in
+          C.lowered-fits (bitAt ws) (bitAt vs) (blocksOf (h .capacity)) i cs ds
+          (C.put-less ws vs i o (subst (λ (x : ℕ). RangePut ws i (i + 1) x vs) b put))
+          (bitAt-le ws) (high-zero h ws cs ws z refl) fit (subst (λ (x : ℕ). PathRaised (blocksOf (h .capacity)) i x cs ds) down path)
+
+  pub flip-done : judge (flipTable h (length ws) (length cs) i) ≡ none → Flipped h i ws cs (outcome (done h (1 - bitAt ws i) number) vs ds)
+  flip-done pass =
+      let e : 1 - bitAt ws i ≡ 1 - cell (held h ws) i = ap (λ (b : ℕ). 1 - b) (sym (strip-cell ws (h .length) i below)) in
+      promise-passed (flipTable h (length ws) (length cs) i) _ _ (Fits h ws cs) _ (outcome (done h (1 - bitAt ws i) number) vs ds) pass
+      (λ f. C.afresh-is (h .capacity) (h .length) (1 - bitAt ws i) number (set (held h ws) i (1 - bitAt ws i)) vs ds
+      (C.flip-strip ws vs (h .length) i (1 - bitAt ws i) below put) (put .long ∙ z .words) (path .long ∙ z .counters) small
+      (C.put-clean ws vs i (i + 1) (h .length) (1 - bitAt ws i) put (omega arith) (f .clean)) (flip-fits (f .right))
+      ∙ ap₂ (λ (x y : ℕ). afresh (h .capacity) (set (held h ws) i x) x y) e count)
+      (subst (λ (x : ℕ). Near h h x i x ws cs (outcome (done h (1 - bitAt ws i) number) vs ds)) e
+      (near number vs ds (omega (arith, count, changed-le (blocksOf (h .capacity)) i)) (C.put-bit ws vs i (1 - bitAt ws i) put)
+      (C.path-moved (blocksOf (h .capacity)) i d cs ds path)))
+
+-- ---- add
+-- the record after v was appended, with the counters moved for v = 1
+module _ (h : Handle) (ws vs cs : List ℕ) (v : ℕ) (z : Sizes h ws cs) (room : h .length < h .capacity)
+    (put : RangePut ws (h .length) (h .length + 1) v vs) (small : (k : ℕ) → getD vs k 0 < 2 ^ 64)
+    (pass : judge (pushTable h (length ws) (length cs) v) ≡ none) where
+  -- done, with the counters ds
+  push-with : (number : ℕ) (ds : List ℕ) → number ≡ cond (eqb v 1) (changed (blocksOf (h .capacity)) (h .length)) 0 → length ds ≡ length cs
+      → (Fits h ws cs → AllFit (bitAt vs) (blocksOf (h .capacity)) ds)
+      → Near h (handle (h .capacity) (h .length + 1)) (h .length) (h .length) v ws cs (outcome (done (handle (h .capacity) (h .length + 1)) (h .length) number) vs ds)
+      → Pushed h v ws cs (outcome (done (handle (h .capacity) (h .length + 1)) (h .length) number) vs ds)
+  push-with number ds count long fit loose =
+      promise-passed (pushTable h (length ws) (length cs) v) _ _ (Fits h ws cs) _
+      (outcome (done (handle (h .capacity) (h .length + 1)) (h .length) number) vs ds) pass
+      (λ f. C.afresh-is (h .capacity) (h .length + 1) (h .length) number (held h ws ++ (v ∷ [])) vs ds
+      (C.push-strip ws vs (h .length) v put) (put .long ∙ z .words) (long ∙ z .counters) small
+      (C.put-clean ws vs (h .length) (h .length + 1) (h .length + 1) v put (native.Mathlib.Nat.le-refl (h .length + 1))
+      (λ p l. f .clean p (omega arith)))
+      (fit f)
+      ∙ ap (λ (y : ℕ). afresh (h .capacity) (held h ws ++ (v ∷ [])) (h .length) y) count)
+      loose
+
+  pub push-zero : v ≡ 0 → Pushed h v ws cs (outcome (done (handle (h .capacity) (h .length + 1)) (h .length) 0) vs cs)
+  push-zero e =
+      push-with 0 cs (sym (simp (ne-eqb v 1 (λ o. omega arith)))) refl
+      (λ f. C.same-fits (bitAt ws) (bitAt vs) (blocksOf (h .capacity)) cs (same f) (f .right))
+      (near 0 vs cs (omega arith) (C.put-bit ws vs (h .length) v put)
+      (record { long = refl; off = (λ t j i a b x y q. refl) }))
+    where
+      same : Fits h ws cs → (p : ℕ) → bitAt ws p ≡ bitAt vs p
+      same f p = go (native.Mathlib.Decide.ℕ-discrete p (h .length))
+        where
+          go : Dec (p ≡ h .length) → bitAt ws p ≡ bitAt vs p
+          go (yes q) = f .clean p (omega arith) ∙ sym (put .inside p (omega arith) (omega arith) ∙ e)
+          go (no q) = sym (C.put-other ws vs (h .length) v put p q)
+
+  pub push-one : (number : ℕ) (ds : List ℕ) → v ≡ 1 → number ≡ changed (blocksOf (h .capacity)) (h .length)
+      → PathRaised (blocksOf (h .capacity)) (h .length) 1 cs ds
+      → Pushed h v ws cs (outcome (done (handle (h .capacity) (h .length + 1)) (h .length) number) vs ds)
+  push-one number ds e count path =
+      push-with number ds (count ∙ sym (simp (eq-eqb v 1 e))) (path .long)
+      (λ f. C.raised-fits (bitAt ws) (bitAt vs) (blocksOf (h .capacity)) (h .length) cs ds
+      (C.put-more ws vs (h .length) (f .clean (h .length) (native.Mathlib.Nat.le-refl (h .length)))
+      (subst (λ (x : ℕ). RangePut ws (h .length) (h .length + 1) x vs) e put))
+      (bitAt-le vs) (high-zero h ws cs vs z (put .long)) (f .right) path)
+      (near number vs ds (omega (arith, count, changed-le (blocksOf (h .capacity)) (h .length))) (C.put-bit ws vs (h .length) v put)
+      (C.path-moved (blocksOf (h .capacity)) (h .length) 1 cs ds path))
+
+-- ---- run and cut: all counters laid from the words
+pub fill-done : (h : Handle) (ws us vs cs ds : List ℕ) (a b v x : ℕ) → Sizes h ws cs → RangePut ws a b v us → RangePut us (h .length) (h .capacity) 0 vs
+    → ((k : ℕ) → getD vs k 0 < 2 ^ 64) → length ds ≡ length cs → x ≡ ones (bitAt vs) (h .capacity) → AllFit (bitAt vs) (blocksOf (h .capacity)) ds
+    → outcome (done h x 0) vs ds ≡ afresh (h .capacity) (filled (held h ws) a b v) (rank (filled (held h ws) a b v) 1 (h .length)) 0
+fill-done h ws us vs cs ds a b v x z put wipe small long count fit =
+    let s = C.fill-strip ws us vs (h .length) a b v (h .capacity) put wipe in
+    let clean = C.wipe-clean us vs (h .length) (h .capacity) wipe (omega (arith, put .long, z .words)) in
+    C.afresh-is (h .capacity) (h .length) x 0 (filled (held h ws) a b v) vs ds s (wipe .long ∙ put .long ∙ z .words) (long ∙ z .counters) small clean fit
+    ∙ ap (λ (y : ℕ). afresh (h .capacity) (filled (held h ws) a b v) y 0) (count ∙ C.held-ones vs (h .length) (h .capacity) (filled (held h ws) a b v) s (z .long) clean)
+
+pub truncate-done : (h : Handle) (ws vs cs ds : List ℕ) (n x : ℕ) → Sizes h ws cs → n ≤ h .length → RangePut ws n (h .capacity) 0 vs
+    → ((k : ℕ) → getD vs k 0 < 2 ^ 64) → length ds ≡ length cs → x ≡ ones (bitAt vs) (h .capacity) → AllFit (bitAt vs) (blocksOf (h .capacity)) ds
+    → outcome (done (handle (h .capacity) n) x 0) vs ds ≡ afresh (h .capacity) (take n (held h ws)) (rank (take n (held h ws)) 1 n) 0
+truncate-done h ws vs cs ds n x z le wipe small long count fit =
+    let s = C.cut-strip ws vs (h .length) n (h .capacity) le wipe in
+    let clean = C.wipe-clean ws vs n (h .capacity) wipe (omega (arith, z .words)) in
+    C.afresh-is (h .capacity) n x 0 (take n (held h ws)) vs ds s (wipe .long ∙ z .words) (long ∙ z .counters) small clean fit
+    ∙ ap (λ (y : ℕ). afresh (h .capacity) (take n (held h ws)) y 0) (count ∙ C.held-ones vs n (h .capacity) (take n (held h ws)) s (omega (arith, z .long)) clean)

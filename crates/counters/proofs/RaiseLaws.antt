@@ -1,0 +1,348 @@
+-- A lent part given back, and the counters that count a stroke moved: eight lanes, one node, level by level. Assumes nothing.
+use mathlib.Core.Path.{_≡_, refl, sym, ap, ap₂, _∙_}
+use mathlib.Core.Bool.{Bool, true, false, cond, _&&_}
+use mathlib.Core.List.{List, _++_}
+use mathlib.Core.Logic.{_⊎_, inl, inr}
+use Prim.Native.Nat.{ℕ, _+_, _-_, _*_, _/_, _%_, _^_, _≤_, _<_}
+use native.Mathlib.Numerals.{add-one}
+use native.Mathlib.Omega.{arith}
+use lib.Dec.{leb, ltb}
+use lib.ListN.{length, getD, take, drop, set, length-append, length-drop, length-set, List·getD-append}
+use lib.Seq.{length-take-le, getD-take, getD-drop, getD-append-add, getD-set-same, getD-set-other}
+use borrow.Author.Tests.{le-leb, lt-leb, lt-ltb, le-ltb}
+use Rattle.words.specs.Bits.{ones}
+use Rattle.words.proofs.Sums.{lt-or, ones-zero, ones-more}
+use Rattle.words.proofs.BoolLaws.{and-intro}
+use Rattle.counters.specs.Tree.{nodes, height, fromChild, toChild, counterCount, indexOf, childOf, slot, counts, changed}
+use Rattle.counters.specs.Working.{movedBy, countsChild, PathRaised}
+use Rattle.counters.proofs.TreeLaws.{nodes-zero, nodes-more, nodes-le, childOf-one, childOf-suc, from-summary, to-summary, from-key, to-key, from-to, start, index-is, start-zero, start-next, total-mono, height-le}
+use Rattle.counters.proofs.FlipLaws.{child-lt, counts-before, counts-past}
+
+-- ---- a lent part
+-- the whole, when the k elements from a on were lent and have come back as ws
+abbrev pub splice : {A : Type 0} → ℕ → ℕ → List A → List A → List A
+splice a k xs ws = take a xs ++ (ws ++ drop k (drop a xs))
+
+module _ {A : Type 0} (a k : ℕ) (xs : List A) (fits : a + k ≤ length xs) where
+  -- the part is as long as asked
+  pub part-length : length (take k (drop a xs)) ≡ k
+  part-length = length-take-le k (drop a xs) (simp length-drop (omega arith))
+
+  -- and has the whole's elements
+  pub part-at : (z : A) (x : ℕ) → x < k → getD (take k (drop a xs)) x z ≡ getD xs (a + x) z
+  part-at z x h = getD-take k (drop a xs) x z h ∙ getD-drop a xs x z
+
+-- `kept`, that what came back is as long as what was lent, is a call's `.kept`
+module _ {A : Type 0} (a k : ℕ) (xs ws : List A) (fits : a + k ≤ length xs) (kept : length ws ≡ length (take k (drop a xs))) where
+  -- as many elements come back
+  back-length : length ws ≡ k
+  back-length = kept ∙ part-length a k xs fits
+
+  -- as many stand before them
+  head-length : length (take a xs) ≡ a
+  head-length = length-take-le a xs (omega arith)
+
+  -- the whole keeps its length
+  pub splice-length : length (splice a k xs ws) ≡ length xs
+  splice-length = simp (length-append, length-drop) (omega (arith, head-length, back-length))
+
+  -- below the part nothing has changed
+  pub splice-below : (z : A) (x : ℕ) → x < a → getD (splice a k xs ws) x z ≡ getD xs x z
+  splice-below z x h =
+      List·getD-append (take a xs) (ws ++ drop k (drop a xs)) z x (omega (arith, head-length)) ∙ getD-take a xs x z h
+
+  -- past the head stand what came back and the rest
+  splice-past : (z : A) (x : ℕ) → a ≤ x → getD (splice a k xs ws) x z ≡ getD (ws ++ drop k (drop a xs)) (x - a) z
+  splice-past z x h =
+      let e : x ≡ length (take a xs) + (x - a) = omega (arith, head-length) in
+      ap (λ (y : ℕ). getD (splice a k xs ws) y z) e ∙ getD-append-add (take a xs) (ws ++ drop k (drop a xs)) (x - a) z
+
+  -- inside it stands what came back
+  pub splice-in : (z : A) (x i : ℕ) → x ≡ a + i → i < k → getD (splice a k xs ws) x z ≡ getD ws i z
+  splice-in z x i e h =
+      let f : x - a ≡ i = omega arith in
+      splice-past z x (omega arith)
+      ∙ ap (λ (y : ℕ). getD (ws ++ drop k (drop a xs)) y z) f
+      ∙ List·getD-append ws (drop k (drop a xs)) z i (omega (arith, back-length))
+
+  -- from its end on nothing has changed
+  pub splice-above : (z : A) (x : ℕ) → a + k ≤ x → getD (splice a k xs ws) x z ≡ getD xs x z
+  splice-above z x h =
+      let e : x - a ≡ length ws + (x - a - k) = omega (arith, back-length) in
+      let f : a + (k + (x - a - k)) ≡ x = omega arith in
+      splice-past z x (omega arith)
+      ∙ ap (λ (y : ℕ). getD (ws ++ drop k (drop a xs)) y z) e
+      ∙ getD-append-add ws (drop k (drop a xs)) (x - a - k) z
+      ∙ getD-drop k (drop a xs) (x - a - k) z
+      ∙ getD-drop a xs (k + (x - a - k)) z
+      ∙ ap (λ (y : ℕ). getD xs y z) f
+
+  -- where each element of the part has become f of it, so has each of the whole inside
+  pub splice-each : (f : ℕ → A → A) (z : A) → ((i : ℕ) → i < k → getD ws i z ≡ f i (getD (take k (drop a xs)) i z))
+      → (x i : ℕ) → x ≡ a + i → i < k → getD (splice a k xs ws) x z ≡ f i (getD xs x z)
+  splice-each f z each x i e h =
+      splice-in z x i e h ∙ each i h ∙ ap (f i) (part-at a k xs fits z i h ∙ ap (λ (y : ℕ). getD xs y z) (sym e))
+
+-- ---- eight lanes
+-- a wrapping sum with d, or with 0
+pub moved-sum : (b : Bool) (d x : ℕ) → x < 2 ^ 32 → (x + cond b d 0) % 2 ^ 32 ≡ movedBy b d x
+moved-sum true d x h = refl
+moved-sum false d x h = omega arith
+
+-- one test for another
+pub moved-test : {b b' : Bool} (d x : ℕ) → b ≡ b' → movedBy b d x ≡ movedBy b' d x
+moved-test d x e = ap (λ (b : Bool). movedBy b d x) e
+
+-- ys is xs with those numbers before i moved by d that the test names
+pub record Lanes (test : ℕ → Bool) (d : ℕ) (xs : List ℕ) (i : ℕ) (ys : List ℕ) : Type 0 where
+  pub long : length ys ≡ length xs
+  pub moved : (k : ℕ) → k < i → getD ys k 0 ≡ movedBy (test k) d (getD xs k 0)
+  pub rest : (k : ℕ) → i ≤ k → getD ys k 0 ≡ getD xs k 0
+
+-- none yet
+pub lanes-none : (test : ℕ → Bool) (d : ℕ) (xs : List ℕ) → Lanes test d xs 0 xs
+lanes-none test d xs = record { long = refl; moved = λ k h. absurd (omega arith); rest = λ k h. refl }
+
+-- one more
+pub lanes-more : {test : ℕ → Bool} {d : ℕ} {xs : List ℕ} {i : ℕ} {ys : List ℕ} → Lanes test d xs i ys → i < length ys → getD ys i 0 < 2 ^ 32
+    → (e v : ℕ) → e ≡ cond (test i) d 0 → v ≡ (getD ys i 0 + e) % 2 ^ 32 → Lanes test d xs (i + 1) (set ys i v)
+lanes-more {test} {d} {xs} {i} {ys} l h small e v is sum =
+    record {
+      long = length-set ys i v ∙ l .long;
+      moved = λ k q. go k q (lt-or k i);
+      rest = λ k q. getD-set-other ys i k v 0 (λ w. omega arith) ∙ l .rest k (omega arith);
+    }
+  where
+    here : v ≡ movedBy (test i) d (getD xs i 0)
+    here =
+        sum
+        ∙ ap (λ (x : ℕ). (getD ys i 0 + x) % 2 ^ 32) is
+        ∙ moved-sum (test i) d (getD ys i 0) small
+        ∙ ap (movedBy (test i) d) (l .rest i (omega arith))
+
+    go : (k : ℕ) → k < i + 1 → (k < i) ⊎ (i ≤ k) → getD (set ys i v) k 0 ≡ movedBy (test k) d (getD xs k 0)
+    go k q (inl o) = getD-set-other ys i k v 0 (λ w. omega arith) ∙ l .moved k o
+    go k q (inr o) = let w : k ≡ i = omega arith in rw w (getD-set-same ys i v 0 h ∙ here)
+
+-- ---- one node
+-- a number is between two ends
+between-in : (a b c : ℕ) → a ≤ c → c < b → (leb a c && ltb c b) ≡ true
+between-in a b c h l = and-intro (le-leb a c h) (lt-ltb c b l)
+
+-- or before the lower
+between-before : (a b c : ℕ) → c < a → (leb a c && ltb c b) ≡ false
+between-before a b c h = rw (lt-leb a c h)
+
+-- or past the upper
+between-past : (a b c : ℕ) → b ≤ c → (leb a c && ltb c b) ≡ false
+between-past a b c h = go (leb a c) (le-ltb c b h)
+  where
+    go : (t : Bool) {u : Bool} → u ≡ false → (t && u) ≡ false
+    go true e = e
+    go false e = refl
+
+-- ends and number moved alike
+between-shift : (k a b c x : ℕ) → x ≡ k + c → (leb (k + a) x && ltb x (k + b)) ≡ (leb a c && ltb c b)
+between-shift k a b c x e = go (lt-or c a) (lt-or c b)
+  where
+    go : (c < a) ⊎ (a ≤ c) → (c < b) ⊎ (b ≤ c) → (leb (k + a) x && ltb x (k + b)) ≡ (leb a c && ltb c b)
+    go (inl l) u = between-before (k + a) (k + b) x (omega arith) ∙ sym (between-before a b c l)
+    go (inr l) (inl u) = between-in (k + a) (k + b) x (omega arith) (omega arith) ∙ sym (between-in a b c l u)
+    go (inr l) (inr u) = between-past (k + a) (k + b) x (omega arith) ∙ sym (between-past a b c u)
+
+-- the ends of the children that a key counts
+key-ends : (i : ℕ) → 8 ≤ i → (fromChild i ≡ 8 * ((i - 8) / 8)) × (toChild i ≡ i - 8 + 1)
+key-ends i h = let e : 8 + (i - 8) ≡ i = omega arith in (rw e at (from-key (i - 8)), rw e at (to-key (i - 8)))
+
+-- the summaries that count child c: those past its group
+pub summary-counts : (c i : ℕ) → i < 8 → leb (c / 8 + 1) i ≡ countsChild c i
+summary-counts c i h = go (lt-or i (c / 8 + 1))
+  where
+    go : (i < c / 8 + 1) ⊎ (c / 8 + 1 ≤ i) → leb (c / 8 + 1) i ≡ countsChild c i
+    go (inl l) =
+        lt-leb (c / 8 + 1) i l ∙ sym (between-past (fromChild i) (toChild i) c (omega (arith, to-summary i h)))
+    go (inr l) =
+        le-leb (c / 8 + 1) i l
+        ∙ sym (between-in (fromChild i) (toChild i) c (omega (arith, from-summary i h)) (omega (arith, to-summary i h)))
+
+-- the keys of its group that count it: those from its own on
+pub key-counts : (c i : ℕ) → 8 + 8 * (c / 8) ≤ i → i < 8 + 8 * (c / 8) + 8 → leb (c % 8) (i - (8 + 8 * (c / 8))) ≡ countsChild c i
+key-counts c i h u = go (key-ends i (omega arith)) (lt-or (i - (8 + 8 * (c / 8))) (c % 8))
+  where
+    y : ℕ
+    y = i - (8 + 8 * (c / 8))
+
+    go : (fromChild i ≡ 8 * ((i - 8) / 8)) × (toChild i ≡ i - 8 + 1) → (y < c % 8) ⊎ (c % 8 ≤ y) → leb (c % 8) y ≡ countsChild c i
+    go e (inl l) = lt-leb (c % 8) y l ∙ sym (between-past (fromChild i) (toChild i) c (omega arith))
+    go e (inr l) = le-leb (c % 8) y l ∙ sym (between-in (fromChild i) (toChild i) c (omega arith) (omega arith))
+
+-- no key before its group does
+pub key-before : (c i : ℕ) → 8 ≤ i → i < 8 + 8 * (c / 8) → countsChild c i ≡ false
+key-before c i h l = between-past (fromChild i) (toChild i) c (omega (arith, key-ends i h))
+
+-- and none past it
+pub key-past : (c i : ℕ) → 8 + 8 * (c / 8) + 8 ≤ i → countsChild c i ≡ false
+key-past c i h = between-before (fromChild i) (toChild i) c (omega (arith, key-ends i (omega arith)))
+
+-- a node whose summaries came back as us, and the keys of child c's group then as vs: every counter that counts c is moved
+pub node-raised : (c d : ℕ) (xs us vs : List ℕ) (a m : ℕ) → c < 64 → length xs ≡ 72 → a ≡ 8 + 8 * (c / 8) → m ≡ 8
+    → length us ≡ length (take 8 (drop 0 xs)) → length vs ≡ length (take m (drop a (splice 0 8 xs us)))
+    → ((i : ℕ) → i < 8 → getD us i 0 ≡ movedBy (leb (c / 8 + 1) i) d (getD (take 8 (drop 0 xs)) i 0))
+    → ((i : ℕ) → i < 8 → getD vs i 0 ≡ movedBy (leb (c % 8) i) d (getD (take m (drop a (splice 0 8 xs us))) i 0))
+    → (i : ℕ) → i < 72 → getD (splice a m (splice 0 8 xs us) vs) i 0 ≡ movedBy (countsChild c i) d (getD xs i 0)
+node-raised c d xs us vs a m small long begin eight kept kept' first second i h = go (lt-or i 8) (lt-or i a) (lt-or i (a + m))
+  where
+    ys : List ℕ
+    ys = splice 0 8 xs us
+
+    fit : 0 + 8 ≤ length xs
+    fit = omega arith
+
+    fit' : a + m ≤ length ys
+    fit' = omega (arith, splice-length 0 8 xs us fit kept)
+
+    -- a key as the summaries' loan left it
+    key : 8 ≤ i → getD ys i 0 ≡ getD xs i 0
+    key l = splice-above 0 8 xs us fit kept 0 i (omega arith)
+
+    go : (i < 8) ⊎ (8 ≤ i) → (i < a) ⊎ (a ≤ i) → (i < a + m) ⊎ (a + m ≤ i)
+        → getD (splice a m ys vs) i 0 ≡ movedBy (countsChild c i) d (getD xs i 0)
+    go (inl l) p q =
+        splice-below a m ys vs fit' kept' 0 i (omega arith)
+        ∙ splice-each 0 8 xs us fit kept (λ k. movedBy (leb (c / 8 + 1) k) d) 0 first i i (omega arith) l
+        ∙ moved-test d (getD xs i 0) (summary-counts c i l)
+    go (inr l) (inl p) q = splice-below a m ys vs fit' kept' 0 i p ∙ key l ∙ moved-test d (getD xs i 0) (sym (key-before c i l (omega arith)))
+    go (inr l) (inr p) (inl q) =
+        splice-each a m ys vs fit' kept' (λ k. movedBy (leb (c % 8) k) d) 0 (λ k u. second k (omega arith)) i (i - a) (omega arith) (omega arith)
+        ∙ ap (movedBy (leb (c % 8) (i - a)) d) (key l)
+        ∙ moved-test d (getD xs i 0) (ap (λ (x : ℕ). leb (c % 8) (i - x)) begin ∙ key-counts c i (omega arith) (omega arith))
+    go (inr l) (inr p) (inr q) = splice-above a m ys vs fit' kept' 0 i q ∙ key l ∙ moved-test d (getD xs i 0) (sym (key-past c i (omega arith)))
+
+-- ---- the path
+-- of the node on the path, those counters count a stroke that count its slot
+pub counts-on : (t j i p : ℕ) → j ≡ childOf t p / 64 → counts t j i p ≡ countsChild (slot t p) i
+unfolding counts
+counts-on t j i p e = between-shift (64 * j) (fromChild i) (toChild i) (slot t p) (childOf t p) (omega arith)
+
+-- and no counter of a node before it
+pub counts-left : (t j i p : ℕ) → i < 72 → j < childOf t p / 64 → counts t j i p ≡ false
+counts-left t j i p h l = counts-past t j i p (omega (arith, from-to i h .1))
+
+-- nor of one past it
+pub counts-right : (t j i p : ℕ) → childOf t p / 64 < j → counts t j i p ≡ false
+counts-right t j i p l = counts-before t j i p (omega arith)
+
+-- how many counters of level s + 1 count stroke p
+abbrev pub share : ℕ → ℕ → ℕ
+share p s = 15 - slot (s + 1) p % 8 - slot (s + 1) p / 8
+
+-- after t levels from the lowest: ys is xs with the counters of the levels 1 to t moved that count stroke p, and `number` is how many
+pub record Climb (n p d : ℕ) (xs : List ℕ) (t : ℕ) (ys : List ℕ) (count child end number : ℕ) : Type 0 where
+  pub nodes-are : count ≡ nodes n t
+  pub child-is : child ≡ childOf (t + 1) p
+  pub end-is : end ≡ start n t
+  pub number-is : number ≡ ones (share p) t
+  pub number-le : number ≤ 15 * t
+  pub long : length ys ≡ length xs
+  pub moved : (s j i : ℕ) → 1 ≤ s → s ≤ t → j < nodes n s → i < 72
+      → getD ys (indexOf n s j i) 0 ≡ movedBy (counts s j i p) d (getD xs (indexOf n s j i) 0)
+  pub rest : (x : ℕ) → x < start n t → getD ys x 0 ≡ getD xs x 0
+
+-- no level yet
+pub climb-none : (n p d : ℕ) (xs : List ℕ) → length xs ≡ counterCount n → Climb n p d xs 0 xs n (p / 512) (length xs) 0
+climb-none n p d xs e =
+    record {
+      nodes-are = sym (nodes-zero n);
+      child-is = sym (childOf-one p);
+      end-is = e ∙ sym (start-zero n);
+      number-is = sym (ones-zero (share p));
+      number-le = omega arith;
+      long = refl;
+      moved = λ s j i a b l h. absurd (omega arith);
+      rest = λ x l. refl;
+    }
+
+-- the node on the path of the next level: there, and within the counters
+pub record Next (n t count child end size : ℕ) : Type 0 where
+  pub few : t < height n
+  pub levels-le : height n ≤ 3
+  pub count-le : count ≤ 262144
+  pub level-fits : 72 * ((count + 63) / 64) ≤ end
+  pub node-there : child / 64 < (count + 63) / 64
+  pub end-le : end ≤ size
+  pub node-at : end - 72 * ((count + 63) / 64) ≡ start n (t + 1)
+
+-- it is, while levels are left
+pub climb-next : {n p d : ℕ} {xs : List ℕ} {t : ℕ} {ys : List ℕ} {count child end number : ℕ} → Climb n p d xs t ys count child end number
+    → t < height n → 0 < n → n ≤ 262144 → p < 512 * n → length xs ≡ counterCount n → Next n t count child end (length ys)
+climb-next {n} {p} {d} {xs} {t} {ys} {count} {child} {end} {number} k l pos most in-all size =
+    let more : (nodes n t + 63) / 64 ≡ nodes n (t + 1) = sym (nodes-more n t) in
+    let next : start n (t + 1) + 72 * nodes n (t + 1) ≡ start n t = rw (← add-one t) at (start-next n t l) in
+    record {
+      few = l;
+      levels-le = height-le n;
+      count-le = omega (arith, k .nodes-are, nodes-le n t pos);
+      level-fits = omega (arith, k .nodes-are, k .end-is);
+      node-there = omega (arith, k .nodes-are, k .child-is, child-lt n (t + 1) p (omega arith) in-all);
+      end-le = omega (arith, k .end-is, k .long);
+      node-at = omega (arith, k .nodes-are, k .end-is);
+    }
+
+-- the stroke's child one level up, as the code writes it
+childOf-more : (t p : ℕ) → childOf (t + 1 + 1) p ≡ childOf (t + 1) p / 64
+childOf-more t p = simp add-one (childOf-suc t p)
+
+-- one level more: the node on the path was lent, and its counters that count the stroke's slot have come back moved
+pub climb-more : {n p d : ℕ} {xs : List ℕ} {t : ℕ} {ys : List ℕ} {count child end number : ℕ} → Climb n p d xs t ys count child end number
+    → Next n t count child end (length ys) → (a m : ℕ) (ws : List ℕ) → a ≡ end - 72 * ((count + 63) / 64) + 72 * (child / 64) → m ≡ 72
+    → length ws ≡ length (take m (drop a ys))
+    → ((i : ℕ) → i < 72 → getD ws i 0 ≡ movedBy (countsChild (child % 64) i) d (getD (take m (drop a ys)) i 0))
+    → Climb n p d xs (t + 1) (splice a m ys ws) ((count + 63) / 64) (child / 64) (end - 72 * ((count + 63) / 64)) (number + (15 - child % 64 % 8 - child % 64 / 8))
+climb-more {n} {p} {d} {xs} {t} {ys} {count} {child} {end} {number} k next a m ws begin long kept each =
+    record {
+      nodes-are = omega (arith, k .nodes-are, nodes-more n t);
+      child-is = omega (arith, k .child-is, childOf-more t p);
+      end-is = next .node-at;
+      number-is = ap₂ (λ (x y : ℕ). x + (15 - y % 64 % 8 - y % 64 / 8)) (k .number-is) (k .child-is) ∙ sym (ones-more (share p) t);
+      number-le = omega (arith, k .number-le);
+      long = splice-length a m ys ws fit kept ∙ k .long;
+      moved = λ s j i b c l h. go s j i b c l h (lt-or t s);
+      rest = λ x l. splice-below a m ys ws fit kept 0 x (omega arith) ∙ k .rest x (omega arith);
+    }
+  where
+    fit : a + m ≤ length ys
+    fit = omega arith
+
+    -- until now a counter of the new level is as it was
+    old : (j i : ℕ) → j < nodes n (t + 1) → i < 72 → getD ys (indexOf n (t + 1) j i) 0 ≡ getD xs (indexOf n (t + 1) j i) 0
+    old j i l h = k .rest (indexOf n (t + 1) j i) (omega (arith, index-is n (t + 1) j i, nodes-more n t))
+
+    -- the counters of the new level: before the node, past it, and its own
+    here : (j i : ℕ) → j < nodes n (t + 1) → i < 72 → (j < child / 64) ⊎ (child / 64 ≤ j) → (child / 64 < j) ⊎ (j ≤ child / 64)
+        → getD (splice a m ys ws) (indexOf n (t + 1) j i) 0 ≡ movedBy (counts (t + 1) j i p) d (getD xs (indexOf n (t + 1) j i) 0)
+    here j i l h (inl o) q =
+        splice-below a m ys ws fit kept 0 (indexOf n (t + 1) j i) (omega (arith, index-is n (t + 1) j i))
+        ∙ old j i l h
+        ∙ moved-test d (getD xs (indexOf n (t + 1) j i) 0) (sym (counts-left (t + 1) j i p h (omega (arith, k .child-is))))
+    here j i l h (inr o) (inl q) =
+        splice-above a m ys ws fit kept 0 (indexOf n (t + 1) j i) (omega (arith, index-is n (t + 1) j i))
+        ∙ old j i l h
+        ∙ moved-test d (getD xs (indexOf n (t + 1) j i) 0) (sym (counts-right (t + 1) j i p (omega (arith, k .child-is))))
+    here j i l h (inr o) (inr q) =
+        splice-each a m ys ws fit kept (λ y. movedBy (countsChild (child % 64) y) d) 0 (λ y u. each y (omega arith)) (indexOf n (t + 1) j i) i
+        (omega (arith, index-is n (t + 1) j i)) (omega arith)
+        ∙ ap (movedBy (countsChild (child % 64) i) d) (old j i l h)
+        ∙ moved-test d (getD xs (indexOf n (t + 1) j i) 0) (ap (λ (c : ℕ). countsChild (c % 64) i) (k .child-is) ∙ sym (counts-on (t + 1) j i p (omega (arith, k .child-is))))
+
+    go : (s j i : ℕ) → 1 ≤ s → s ≤ t + 1 → j < nodes n s → i < 72 → (t < s) ⊎ (s ≤ t)
+        → getD (splice a m ys ws) (indexOf n s j i) 0 ≡ movedBy (counts s j i p) d (getD xs (indexOf n s j i) 0)
+    go s j i b c l h (inl o) = let e : s ≡ t + 1 = omega arith in rw e (here j i (rw e at l) h (lt-or j (child / 64)) (lt-or (child / 64) j))
+    go s j i b c l h (inr o) =
+        splice-above a m ys ws fit kept 0 (indexOf n s j i) (omega (arith, index-is n s j i, total-mono n o)) ∙ k .moved s j i b o l h
+
+-- all levels
+pub climb-done : {n p d : ℕ} {xs : List ℕ} {t : ℕ} {ys : List ℕ} {count child end number : ℕ} → Climb n p d xs t ys count child end number
+    → t ≡ height n → (number ≡ changed n p) × PathRaised n p d xs ys
+unfolding changed
+climb-done {p = p} k e =
+    (k .number-is ∙ ap (ones (share p)) e, record { long = k .long; each = λ s j i a b l h. k .moved s j i a (omega arith) l h })

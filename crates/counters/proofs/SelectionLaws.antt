@@ -1,0 +1,307 @@
+-- The laws of select: the v among bits of which the ones are counted, the child of a node that holds the k-th v, the way down, and the position.
+-- Each holds for both values and all levels. Assumes nothing.
+use mathlib.Core.Path.{_≡_, refl, sym, ap, ap₂, _∙_, subst}
+use mathlib.Core.Logic.{_⊎_, inl, inr}
+use mathlib.Core.List.{List}
+use Prim.Native.Nat.{ℕ, zero, suc, _+_, _-_, _*_, _/_, _%_, _^_, _≤_, _<_}
+use native.Mathlib.Nat.{le-refl, mul-zero, mul-one, mul-comm, mul-assoc, mul-left-comm, mul-add, mul-le-mul-left, mul-div-cancel-left, add-zero}
+use native.Mathlib.Numerals.{add-one}
+use native.Mathlib.Omega.{arith}
+use lib.ListN.{getD, take, drop}
+use lib.Seq.{getD-take, getD-drop}
+use lib.Dec.{lit<}
+use borrow.Author.Tests.{le-leb, lt-leb}
+use Rattle.words.specs.Bits.{bit, bitAt, ones}
+use Rattle.words.specs.Strip.{holds, rankOf, selectOf}
+use Rattle.words.specs.Words.{placeIn}
+use Rattle.words.specs.Working.{atMost}
+use Rattle.words.proofs.Sums.{lt-or, ones-zero, ones-more, ones-split, ones-const, ones-mono, ones-le}
+use Rattle.words.proofs.WordLaws.{holds-le}
+use Rattle.words.proofs.SearchLaws.{rank-ones, rank-both, rank-part, placeIn-none, placeIn-place}
+use Rattle.words.proofs.SelectLaws.{Reached, reached}
+use Rattle.words.proofs.BlockSelectLaws.{part-select}
+use Rattle.counters.specs.Tree.{nodes, height, childBits, fromChild, toChild, counter, counterCount, indexOf}
+use Rattle.counters.specs.Working.{AllFit}
+use Rattle.counters.specs.Descent.{Valued, Rising, Counted, Lies, valuesBefore}
+use Rattle.counters.proofs.TreeLaws.{height-pos, height-enough, nodes-root, childBits-one, childBits-suc, childBits-pos, prefix, prefix-zero, prefix-up, from-summary, to-summary, from-key, to-key, from-to, counter-prefix, start, start-next, index-is, index-lt}
+use Rattle.counters.proofs.FlipLaws.{child-there}
+
+-- ---- numbers
+
+-- a difference modulo 2^32 that does not wrap
+pub sub-exact : (a b r : ℕ) → r < 2 ^ 32 → (r + b) % 2 ^ 32 ≡ a → b ≤ a → b + r ≡ a
+sub-exact a b r h e l = omega arith
+
+-- one more of a
+pub times-more : (a i : ℕ) → a * (i + 1) ≡ a * i + a
+times-more a i = mul-add a i 1 ∙ ap (λ (n : ℕ). a * i + n) (mul-one a)
+
+-- one more number, at most k or above it
+pub reached-more : (P : ℕ → ℕ) (k i n m x : ℕ) → x ≡ P i → n ≡ ones (atMost P k) i → ((x ≤ k) × (m ≡ n + 1)) ⊎ ((k < x) × (m ≡ n)) → m ≡ ones (atMost P k) (i + 1)
+reached-more P k i n m x e h (inl w) =
+    let t : atMost P k i ≡ 1 = simp (le-leb (P i) k (subst (λ (y : ℕ). y ≤ k) e (w .0))) in
+    omega (arith, ones-more (atMost P k) i, t, w .1)
+reached-more P k i n m x e h (inr w) =
+    let t : atMost P k i ≡ 0 = simp (lt-leb (P i) k (subst (λ (y : ℕ). k < y) e (w .0))) in
+    omega (arith, ones-more (atMost P k) i, t, w .1)
+
+-- ---- one of eight: B m is the v before part m
+
+-- the v in the first i + 1 parts
+abbrev pub gain : (ℕ → ℕ) → ℕ → ℕ
+gain B i = B (i + 1) - B 0
+
+-- as many parts as have at most k of v lie before the one with the k-th
+pub eighth : (B : ℕ → ℕ) (k n c : ℕ) → Rising B → B 0 + k ≡ n → n < B 8 → c ≡ ones (atMost (gain B) k) 7 → (B c ≤ n) × (n < B (c + 1))
+eighth B k n c up e top h =
+    let r : Reached (gain B) k 7 c = subst (λ (m : ℕ). Reached (gain B) k 7 m) (sym h) (reached (gain B) k 7 rise) in
+    (low c (r .low), high (lt-or c 7) (r .within) (r .above))
+  where
+    rise : (i j : ℕ) → i ≤ j → gain B i ≤ gain B j
+    rise i j l = let u : i + 1 ≤ j + 1 = omega arith in omega (arith, up (i + 1) (j + 1) u)
+
+    low : (m : ℕ) → ((j : ℕ) → j < m → gain B j ≤ k) → B m ≤ n
+    low zero l = omega arith
+    low (suc m) l = omega (arith, l m (omega arith), ap B (add-one m))
+
+    high : (c < 7) ⊎ (7 ≤ c) → c ≤ 7 → (c < 7 → k < gain B c) → n < B (c + 1)
+    high (inl l) w a = omega (arith, a l)
+    high (inr l) w a = let s : c + 1 ≡ 8 = omega arith in subst (λ (m : ℕ). n < B m) (sym s) top
+
+-- ---- the counters of a node
+module _ (B : ℕ → ℕ) (v size : ℕ) (xs : List ℕ) (at : ℕ) (up : Rising B) (counts : Counted B v size xs at) where
+  -- counter i, which gives the ones in the d children from a on, stands at place p
+  valued : (i a b d p : ℕ) → i < 72 → fromChild i ≡ a → toChild i ≡ b → b ≡ a + d → p ≡ at + i → Valued v (size * d) (getD xs p 0) (B b - B a)
+  valued i a b d p h ea eb ed ep =
+      let l : a ≤ b = omega arith in
+      let e : B (fromChild i) + (B b - B a) ≡ B (toChild i) = omega (arith, ap B ea, ap B eb, up a b l) in
+      let s : toChild i - fromChild i ≡ d = omega arith in
+      let w = counts i (B b - B a) h e in
+      subst (λ (q : ℕ). Valued v (size * d) (getD xs q 0) (B b - B a)) (sym ep) (subst (λ (q : ℕ). Valued v (size * q) (getD xs (at + i) 0) (B b - B a)) s w)
+
+  -- the summaries from 1 on
+  pub group-valued : (i : ℕ) → i < 7 → Valued v (8 * size * (i + 1)) (getD xs (at + 1 + i) 0) (gain (λ m. B (8 * m)) i)
+  group-valued i h =
+      let l : i + 1 < 8 = omega arith in
+      let m : i + 1 < 72 = omega arith in
+      let e : size * (8 * (i + 1)) ≡ 8 * size * (i + 1) = mul-left-comm size 8 (i + 1) ∙ sym (mul-assoc 8 size (i + 1)) in
+      subst (λ (q : ℕ). Valued v q (getD xs (at + 1 + i) 0) (gain (λ m. B (8 * m)) i)) e
+      (valued (i + 1) 0 (8 * (i + 1)) (8 * (i + 1)) (at + 1 + i) m (from-summary (i + 1) l) (to-summary (i + 1) l) (omega arith) (omega arith))
+
+  -- the summary of group g
+  pub group-past : (g : ℕ) → g ≤ 7 → Valued v (size * (8 * g)) (getD xs (at + g) 0) (B (8 * g) - B 0)
+  group-past g h =
+      let l : g < 8 = omega arith in
+      valued g 0 (8 * g) (8 * g) (at + g) (omega arith) (from-summary g l) (to-summary g l) (omega arith) refl
+
+  -- the keys of group g
+  pub key-valued : (g i : ℕ) → g ≤ 7 → i < 7 → Valued v (size * (i + 1)) (getD xs (at + 8 + 8 * g + i) 0) (gain (λ m. B (8 * g + m)) i)
+  key-valued g i h l =
+      let e : 8 * ((8 * g + i) / 8) ≡ 8 * g + 0 = omega arith in
+      let b : 8 * g + i + 1 ≡ 8 * g + (i + 1) = omega arith in
+      valued (8 + (8 * g + i)) (8 * g + 0) (8 * g + (i + 1)) (i + 1) (at + 8 + 8 * g + i) (omega arith) (from-key (8 * g + i) ∙ e) (to-key (8 * g + i) ∙ b) (omega arith) (omega arith)
+
+  -- the key before child i of group g
+  pub key-past : (g i : ℕ) → g ≤ 7 → (i ≡ 0 → ⊥) → i ≤ 7 → Valued v (size * i) (getD xs (at + 7 + 8 * g + i) 0) (B (8 * g + i) - B (8 * g))
+  key-past g zero h z l = absurd (z refl)
+  key-past g (suc i) h z l =
+      let e : 8 * ((8 * g + i) / 8) ≡ 8 * g = omega arith in
+      let b : 8 * g + i + 1 ≡ 8 * g + suc i = omega arith in
+      valued (8 + (8 * g + i)) (8 * g) (8 * g + suc i) (suc i) (at + 7 + 8 * g + suc i) (omega arith) (from-key (8 * g + i) ∙ e) (to-key (8 * g + i) ∙ b) refl (omega arith)
+
+-- ---- the root
+
+-- it covers every block
+pub root-covers : (n : ℕ) → n ≤ 262144 → 512 * n ≤ childBits (suc (height n))
+unfolding childBits
+root-covers n h =
+    let e : suc (height n) - 1 ≡ height n = omega arith in
+    subst (λ (x : ℕ). 512 * n ≤ 512 * 64 ^ x) (sym e) (mul-le-mul-left 512 (height-enough n h))
+
+-- its counters are there
+pub root-there : (n : ℕ) → 0 < n → n ≤ 262144 → 72 ≤ counterCount n
+root-there n pos most =
+    let j : 0 < nodes n (height n) = omega (arith, nodes-root n pos most) in
+    omega (arith, index-lt n (height n) 0 71 (height-pos n) (le-refl (height n)) j (lit< tt), index-is n (height n) 0 71)
+
+-- the ones of n blocks, by the root's last summary and its last key
+pub root-ones : (f : ℕ → ℕ) (n : ℕ) (xs : List ℕ) → 0 < n → n ≤ 262144 → AllFit f n xs → ((p : ℕ) → 512 * n ≤ p → f p ≡ 0)
+    → getD xs 7 0 + getD xs 71 0 ≡ ones f (512 * n)
+root-ones f n xs pos most fit clean =
+    let e : getD xs 7 0 + getD xs 71 0 ≡ prefix f (height n) 64 =
+    omega (arith, root 7 0 56 (lit< tt) (from-summary 7 (lit< tt)) (to-summary 7 (lit< tt)), root 71 56 64 (lit< tt) (from-key 63) (to-key 63), prefix-zero f (height n)) in
+    e ∙ up (height n) (height-pos n) ∙ tail
+  where
+    root : (i a b : ℕ) → i < 72 → fromChild i ≡ a → toChild i ≡ b → getD xs i 0 + prefix f (height n) a ≡ prefix f (height n) b
+    root i a b l ea eb =
+        let h : ℕ = height n in
+        let j : 0 < nodes n h = omega (arith, nodes-root n pos most) in
+        let p : indexOf n h 0 i ≡ i = index-is n h 0 i ∙ omega arith in
+        let x : getD xs i 0 ≡ counter f h 0 i = ap (λ (q : ℕ). getD xs q 0) (sym p) ∙ fit h 0 i (height-pos n) (le-refl h) j l in
+        let sa : 64 * 0 + fromChild i ≡ a = omega arith in
+        let sb : 64 * 0 + toChild i ≡ b = omega arith in
+        omega (arith, x, counter-prefix f h 0 i l, ap (prefix f h) sa, ap (prefix f h) sb)
+
+    up : (t : ℕ) → 1 ≤ t → prefix f t 64 ≡ ones f (childBits (suc t))
+    up zero h = absurd (omega arith)
+    up (suc t) h = sym (prefix-up f t 1) ∙ ap (ones f) (mul-one (childBits (suc (suc t))))
+
+    tail : ones f (childBits (suc (height n))) ≡ ones f (512 * n)
+    tail =
+        let d : ℕ = childBits (suc (height n)) - 512 * n in
+        let s : 512 * n + d ≡ childBits (suc (height n)) = omega (arith, root-covers n most) in
+        let z : ones (λ p. f (512 * n + p)) d ≡ d * 0 = ones-const (λ p. f (512 * n + p)) 0 d (λ p l. clean (512 * n + p) (omega arith)) in
+        omega (arith, ones-split f (512 * n) d, ap (ones f) s, z)
+
+-- ---- a level: f p is the bit at position p
+module _ (f : ℕ → ℕ) (v : ℕ) where
+  -- more children, no fewer v
+  pub values-rise : (t : ℕ) → Rising (valuesBefore f v t)
+  values-rise t a b l = ones-mono (holds f v) (mul-le-mul-left (childBits t) l)
+
+  -- a node is the child of the level above
+  pub values-up : (t j : ℕ) → 1 ≤ t → valuesBefore f v (suc t) j ≡ valuesBefore f v t (64 * j)
+  values-up zero j h = absurd (omega arith)
+  values-up (suc t) j h =
+      ap (λ (b : ℕ). rankOf f v (b * j)) (childBits-suc t ∙ mul-comm 64 (childBits (suc t))) ∙ ap (rankOf f v) (mul-assoc (childBits (suc t)) 64 j)
+
+  module _ (bits : (p : ℕ) → f p ≤ 1) where
+    -- of the d children from child a on x bits are ones: n are v
+    values-valued : (t a b d x n : ℕ) → b ≡ a + d → x + prefix f t a ≡ prefix f t b → valuesBefore f v t a + n ≡ valuesBefore f v t b → Valued v (childBits t * d) x n
+    values-valued t a b d x n eb ex en =
+        let w : ℕ = childBits t in
+        let s : w * b ≡ w * a + w * d = ap (λ (m : ℕ). w * m) eb ∙ mul-add w a d in (
+          (λ e. omega (arith, en, ex, is 1 e (w * a), is 1 e (w * b), rank-ones f (w * a) bits, rank-ones f (w * b) bits)),
+          (λ e.
+              omega (
+                arith,
+                en,
+                ex,
+                is 0 e (w * a),
+                is 0 e (w * b),
+                rank-ones f (w * a) bits,
+                rank-ones f (w * b) bits,
+                rank-both f (w * a) bits,
+                rank-both f (w * b) bits,
+              )),
+        )
+      where
+        is : (u : ℕ) → v ≡ u → (i : ℕ) → rankOf f v i ≡ rankOf f u i
+        is u e i = ap (λ (y : ℕ). rankOf f y i) e
+
+    -- node j of level t in a record that fits
+    pub node-counted : (n t j : ℕ) (xs : List ℕ) → AllFit f n xs → 1 ≤ t → t ≤ height n → j < nodes n t
+        → Counted (λ c. valuesBefore f v t (64 * j + c)) v (childBits t) xs (start n t + 72 * j)
+    node-counted n t j xs fit a b h i m l e =
+        let x : getD xs (start n t + 72 * j + i) 0 ≡ counter f t j i = ap (λ (p : ℕ). getD xs p 0) (sym (index-is n t j i)) ∙ fit t j i a b h l in
+        values-valued t (64 * j + fromChild i) (64 * j + toChild i) (toChild i - fromChild i) (getD xs (start n t + 72 * j + i) 0) m
+        (omega (arith, from-to i l .0)) (ap (λ (y : ℕ). y + prefix f t (64 * j + fromChild i)) x ∙ counter-prefix f t j i l) e
+
+    -- from node j of level t, which holds the k-th v, to the child that does
+    pub lies-down : (n t j k left c rest : ℕ) (xs : List ℕ) → AllFit f n xs → 1 ≤ t → t ≤ height n → j < nodes n t → Lies (valuesBefore f v (suc t)) k j left
+        → ((B : ℕ → ℕ) (m : ℕ) → Rising B → Counted B v (childBits t) xs (start n t + 72 * j) → B 0 + left ≡ m → m < B 64 → Lies B m c rest)
+        → Lies (valuesBefore f v t) k (64 * j + c) rest
+    lies-down n t j k left c rest xs fit a b h s found =
+        let B : ℕ → ℕ = λ i. valuesBefore f v t (64 * j + i) in
+        let z : B 0 ≡ valuesBefore f v (suc t) j = ap (valuesBefore f v t) (add-zero (64 * j)) ∙ sym (values-up t j a) in
+        let q : 64 * (j + 1) ≡ 64 * j + 64 = omega arith in
+        let o : B 64 ≡ valuesBefore f v (suc t) (j + 1) = ap (valuesBefore f v t) (sym q) ∙ sym (values-up t (j + 1) a) in
+        let w : Lies B k c rest =
+        found B k (λ x y l. values-rise t (64 * j + x) (64 * j + y) (omega arith)) (node-counted n t j xs fit a b h) (omega (arith, s .under)) (omega (arith, s .over)) in
+        let r : 64 * j + (c + 1) ≡ 64 * j + c + 1 = omega arith in
+        record { under = w .under; over = subst (λ (m : ℕ). k < valuesBefore f v t m) r (w .over) }
+
+  -- the root holds every v of n blocks
+  pub root-lies : (n k : ℕ) → n ≤ 262144 → k < rankOf f v (512 * n) → Lies (valuesBefore f v (suc (height n))) k 0 k
+  root-lies n k h l =
+      record {
+        under = omega (arith, ap (rankOf f v) (mul-zero (childBits (suc (height n)))), ones-zero (holds f v));
+        over = omega (arith, l, ones-mono (holds f v) (root-covers n h), ap (rankOf f v) (mul-one (childBits (suc (height n)))));
+      }
+
+  -- a child that holds the k-th v of n blocks is there
+  pub lies-there : (n t k m left : ℕ) → k < rankOf f v (512 * n) → Lies (valuesBefore f v (suc t)) k m left → m < nodes n t
+  lies-there n t k m left l s = go (lt-or (childBits (suc t) * m) (512 * n))
+    where
+      go : (childBits (suc t) * m < 512 * n) ⊎ (512 * n ≤ childBits (suc t) * m) → m < nodes n t
+      go (inl h) = subst (λ (x : ℕ). x < nodes n t) (mul-div-cancel-left m (childBits-pos t)) (child-there n t (childBits (suc t) * m) h)
+      go (inr h) = absurd (omega (arith, l, ones-mono (holds f v) h, s .under))
+
+-- ---- the way down
+module _ (n v k : ℕ) (xs : List ℕ) where
+  -- on a record that fits, node j of level t holds the k-th v, with `left` of v before it there; at level 0 block j does
+  abbrev pub Leads : ℕ → ℕ → ℕ → Type 0
+  Leads t j left = (f : ℕ → ℕ) → ((p : ℕ) → f p ≤ 1) → AllFit f n xs → k < rankOf f v (512 * n) → Lies (valuesBefore f v (suc t)) k j left
+
+  -- at node j of level t, which has `count` nodes, whose counters start at `from`
+  pub record Way (t count from j left : ℕ) : Type 0 where
+    pub level : t ≤ height n
+    pub many : count ≡ nodes n t
+    pub place : from ≡ start n t
+    pub there : j < count
+    pub leads : Leads t j left
+
+  -- at the root
+  pub way-root : 0 < n → n ≤ 262144 → Way (height n) 1 0 0 k
+  way-root pos most =
+      record {
+        level = le-refl (height n);
+        many = sym (nodes-root n pos most);
+        place = omega arith;
+        there = lit< tt;
+        leads = (λ f bits fit l. root-lies f v n k most l);
+      }
+
+  -- the level ends where the one below starts, within the counters
+  pub way-end : (t count from j left : ℕ) → 0 < t → Way t count from j left → (from + 72 * count ≡ start n (t - 1)) × (from + 72 * count ≤ counterCount n)
+  way-end zero count from j left h w = absurd (omega arith)
+  way-end (suc t) count from j left h w =
+      let e : suc t - 1 ≡ t = omega arith in
+      let s : from + 72 * count ≡ start n t = omega (arith, w .many, w .place, start-next n t (w .level)) in
+      (s ∙ ap (start n) (sym e), omega arith)
+
+  -- to child c, which holds the k-th v where the counters of the node give it
+  pub way-down : (t count from j left size c rest : ℕ) → 0 < t → Way t count from j left → size ≡ childBits t
+      → ((B : ℕ → ℕ) (m : ℕ) → Rising B → Counted B v size xs (from + 72 * j) → B 0 + left ≡ m → m < B 64 → Lies B m c rest)
+      → Leads (t - 1) (64 * j + c) rest
+  way-down t count from j left size c rest h w es found f bits fit l =
+      let e : t ≡ suc (t - 1) = omega arith in
+      let there : j < nodes n t = omega (arith, w .there, w .many) in
+      subst (λ (s : ℕ). Lies (valuesBefore f v s) k (64 * j + c) rest) e
+      (lies-down f v bits n t j k left c rest xs fit h (w .level) there (w .leads f bits fit l) (λ B m up counts.
+      found B m up (subst (λ (s : ℕ). Counted B v s xs (from + 72 * j)) (sym es) (subst (λ (s : ℕ). Counted B v (childBits t) xs (s + 72 * j)) (sym (w .place)) counts))))
+
+-- ---- the position
+
+-- an answer is a position, or the end
+pub select-le : (f : ℕ → ℕ) (n v k : ℕ) → placeIn n (selectOf f n v k) ≤ n
+select-le f n v k = go (lt-or k (rankOf f v n))
+  where
+    go : (k < rankOf f v n) ⊎ (rankOf f v n ≤ k) → placeIn n (selectOf f n v k) ≤ n
+    go (inl l) = omega (arith, placeIn-place f n v k l .below)
+    go (inr l) = omega (arith, placeIn-none f n v k l)
+
+-- no more v than positions
+pub rank-le : (f : ℕ → ℕ) (v n : ℕ) → rankOf f v n ≤ n
+rank-le f v n = ones-le (holds f v) n (holds-le f v)
+
+-- the eight words of block b
+pub block-bit : (ws : List ℕ) (b m p : ℕ) → m ≡ 8 → p < 512 → bitAt (take m (drop (8 * b) ws)) p ≡ bitAt ws (512 * b + p)
+block-bit ws b m p e h =
+    let l : p / 64 < m = omega arith in
+    let q : 8 * b + p / 64 ≡ (512 * b + p) / 64 = omega arith in
+    let r : p % 64 ≡ (512 * b + p) % 64 = omega arith in
+    ap₂ (λ (x y : ℕ). bit x y) (getD-take m (drop (8 * b) ws) (p / 64) 0 l ∙ getD-drop (8 * b) ws (p / 64) 0 ∙ ap (λ (i : ℕ). getD ws i 0) q) r
+
+-- in block b, which holds the k-th v
+pub block-place : (ws : List ℕ) (n b v k left m r : ℕ) → m ≡ 8 → b < n → Lies (valuesBefore (bitAt ws) v 1) k b left
+    → r ≡ placeIn 512 (selectOf (bitAt (take m (drop (8 * b) ws))) 512 v left)
+    → (r < 512) × (512 * b + r ≡ placeIn (512 * n) (selectOf (bitAt ws) (512 * n) v k))
+block-place ws n b v k left m r e h s er =
+    let f : ℕ → ℕ = bitAt ws in
+    let g : ℕ → ℕ = bitAt (take m (drop (8 * b) ws)) in
+    let part : (p : ℕ) → p < 512 → g p ≡ f (512 * b + p) = λ p l. block-bit ws b m p e l in
+    let low : valuesBefore f v 1 b ≡ rankOf f v (512 * b) = ap (λ (w : ℕ). rankOf f v (w * b)) childBits-one in
+    let high : valuesBefore f v 1 (b + 1) ≡ rankOf f v (512 * b + 512) = ap (λ (w : ℕ). rankOf f v (w * (b + 1))) childBits-one ∙ ap (rankOf f v) (times-more 512 b) in
+    let some : left < rankOf g v 512 = omega (arith, s .under, s .over, rank-part f g (512 * b) 512 v 512 part (le-refl 512)) in
+    part-select f g (512 * b) 512 (512 * n) v k left r part (omega arith) (omega (arith, s .under)) some er

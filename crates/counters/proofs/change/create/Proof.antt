@@ -1,0 +1,87 @@
+-- `counters::change::create` meets its contract. Assumes nothing.
+use mathlib.Core.Path.{_≡_, sym, ap, ap₂, _∙_}
+use mathlib.Core.List.{List}
+use mathlib.Core.Option.{Option, none}
+use Prim.Native.Nat.{ℕ}
+use borrow.Author.Needs.{needs}
+use lib.ListN.{length, replicate, length-replicate}
+use Rattle.words.specs.declared.handle.Handle.{Handle}
+use Rattle.words.specs.Refusals.{judge, verdictOf}
+use Rattle.words.specs.Handles.{handle}
+use Rattle.words.proofs.CheckLaws.{judged-pass, unless-refused, unless-passed}
+use Rattle.counters.specs.Tree.{blocksOf, counterCount}
+use Rattle.counters.specs.Promises.{laid, unlaid, outcome}
+use Rattle.counters.specs.Calls.{checks}
+use Rattle.counters.proofs.PromiseLaws.{sizes}
+use Rattle.counters.proofs.change.create.Statement.{statement}
+use Rattle.counters.proofs.change.create.Tie as tie
+
+new-requires : tie.Need-new-requires
+new-requires c κs = search needs
+
+check-record-requires : tie.Need-check-record-requires
+check-record-requires c κs = search needs
+
+enum-known-r : tie.Need-enum-known-r
+enum-known-r c = search needs
+
+enum-told : tie.Need-enum-told
+enum-told c = search needs
+
+zero-words-requires : tie.Need-zero-words-requires
+zero-words-requires c κs = search needs
+
+zero-counters-requires : tie.Need-zero-counters-requires
+zero-counters-requires c κs = search needs
+
+-- the checks of the handle with length 0
+judged : (c : tie.After-check-record)
+    → verdictOf (c .check-record .result)
+    ≡ judge (checks (handle (c .before .before .before .before .args .capacity) 0) (length (c .before .before .before .before .args .words .now))
+    (length (c .before .before .before .before .args .counters .now)))
+judged c =
+    let a = c .before .before .before .before .args in
+    c .check-record .ensures ∙ ap (λ (h : Handle). judge (checks h (length (a .words .now)) (length (a .counters .now)))) (c .before .new .ensures)
+
+returns : tie.Need-returns
+returns c =
+    let k = c .before .before .before in
+    let a = k .before .before .before .before .args in
+    unless-refused (checks (handle (a .capacity) 0) (length (a .words .now)) (length (a .counters .now))) (k .check-record .result) (c .before .r .given .0 .0)
+    (λ n. outcome (unlaid n) (a .words .now) (a .counters .now)) _ (judged k) (c .before .r .given .1)
+
+same-length : tie.Need-same-length
+same-length c = search needs
+
+same-length-2 : tie.Need-same-length-2
+same-length-2 c = search needs
+
+returns-2 : tie.Need-returns-2
+returns-2 c =
+    let e = c .before .before .before .before .before .before .before .before in
+    let k = e .before .before in
+    let a = k .before .before .before .before .args in
+    let t = checks (handle (a .capacity) 0) (length (a .words .now)) (length (a .counters .now)) in
+    let ws = c .before .before .before .before .before .before .zero-words in
+    let cs = c .before .before .zero-counters in
+    let z = sizes (handle (a .capacity) 0) (a .words .now) (a .counters .now) (judged-pass t (k .check-record .result) (judged k) (e .enum-told .given .1)) in
+    let count : length (cs .last .0) ≡ counterCount (blocksOf (a .capacity)) =
+    ap length (cs .ensures) ∙ length-replicate (length (a .counters .now)) 0 ∙ z .counters in
+    ap₂ (λ (g : Handle) (n : ℕ). outcome (laid g n) (ws .last .0) (cs .last .0)) (k .before .new .ensures) count
+    ∙ ap₂ (λ (x y : List ℕ). outcome (laid (handle (a .capacity) 0) (counterCount (blocksOf (a .capacity)))) x y) (ws .ensures) (cs .ensures)
+    ∙ unless-passed t (k .check-record .result) (λ n. outcome (unlaid n) (a .words .now) (a .counters .now)) _ (judged k) (e .enum-told .given .1)
+
+pub create-spec : {M : Type 1} → statement M
+create-spec =
+    tie.close
+    (tie.spec
+    new-requires
+    check-record-requires
+    enum-known-r
+    enum-told
+    zero-words-requires
+    zero-counters-requires
+    returns
+    same-length
+    same-length-2
+    returns-2)

@@ -1,0 +1,122 @@
+-- `counters::change::fill` meets its contract. Assumes nothing.
+use mathlib.Core.Path.{_≡_, sym, ap, _∙_, subst}
+use mathlib.Core.List.{[], _∷_}
+use mathlib.Core.Option.{none}
+use Prim.Native.Nat.{ℕ, _*_, _/_, _≤_, _<_}
+use native.Mathlib.Omega.{arith}
+use borrow.Author.Needs.{needs}
+use lib.Dec.{leb, ltb}
+use lib.ListN.{length}
+use borrow.Author.Tests.{leb-false, ltb-false}
+use Rattle.words.specs.declared.handle.Handle.{Handle}
+use Rattle.words.specs.Bits.{bitAt, ones}
+use Rattle.words.specs.Refusals.{_⇒_, judge}
+use Rattle.words.specs.Calls.{valueLine, withinLine}
+use Rattle.words.proofs.CheckLaws.{judged-pass, passed-both, passes, Passes, unless-refused, unless-passed}
+use Rattle.counters.specs.Promises.{done, Outcome, MovedTold, outcome, stays}
+use Rattle.counters.specs.Calls.{checks, fillTable}
+use Rattle.counters.proofs.PromiseLaws.{Sizes, sizes-of, fill-done}
+use Rattle.counters.proofs.change.fill.Statement.{statement}
+use Rattle.counters.proofs.change.fill.Tie as tie
+
+check-fill-requires : tie.Need-check-fill-requires
+check-fill-requires c κs = search needs
+
+enum-known-r : tie.Need-enum-known-r
+enum-known-r c = search needs
+
+enum-told : tie.Need-enum-told
+enum-told c = search needs
+
+-- the table passes
+passed : (c : tie.After-enum-told)
+    → judge (fillTable (c .before .before .before .before .before .args .h) (length (c .before .before .before .before .before .args .words .now))
+    (length (c .before .before .before .before .before .args .counters .now)) (c .before .before .before .before .before .args .a) (c .before .before .before .before .before .args .b) (c .before .before .before .before .before .args .v)) ≡ none
+passed c =
+    let a = c .before .before .before .before .before .args in
+    judged-pass (fillTable (a .h) (length (a .words .now)) (length (a .counters .now)) (a .a) (a .b) (a .v)) (c .before .before .check-fill .result)
+    (c .before .before .check-fill .ensures) (c .enum-told .given .1)
+
+-- what the checks leave
+known : (c : tie.After-enum-told)
+    → Sizes (c .before .before .before .before .before .args .h) (c .before .before .before .before .before .args .words .now)
+    (c .before .before .before .before .before .args .counters .now)
+known c =
+    let a = c .before .before .before .before .before .args in
+    sizes-of (a .h) (a .words .now) (a .counters .now) (valueLine (a .v) ∷ (ltb (a .b) (a .a) ⇒ 5) ∷ withinLine (a .h) (a .b) ∷ []) (passed c)
+
+-- and its own lines
+own : (c : tie.After-enum-told) → Passes (valueLine (c .before .before .before .before .before .args .v) ∷ (ltb (c .before .before .before .before .before .args .b) (c .before .before .before .before .before .args .a) ⇒ 5) ∷ withinLine (c .before .before .before .before .before .args .h) (c .before .before .before .before .before .args .b) ∷ [])
+own c =
+    let a = c .before .before .before .before .before .args in
+    passes (valueLine (a .v) ∷ (ltb (a .b) (a .a) ⇒ 5) ∷ withinLine (a .h) (a .b) ∷ []) (passed-both (checks (a .h) (length (a .words .now)) (length (a .counters .now))) (valueLine (a .v) ∷ (ltb (a .b) (a .a) ⇒ 5) ∷ withinLine (a .h) (a .b) ∷ []) (passed c) .1)
+
+-- v is 0 or 1, and a ≤ b ≤ length
+fine : (c : tie.After-enum-told) → c .before .before .before .before .before .args .v ≤ 1
+fine c = ltb-false 1 (c .before .before .before .before .before .args .v) (own c .0)
+
+span : (c : tie.After-enum-told) → c .before .before .before .before .before .args .a ≤ c .before .before .before .before .before .args .b
+span c = ltb-false (c .before .before .before .before .before .args .b) (c .before .before .before .before .before .args .a) (own c .1 .0)
+
+within : (c : tie.After-enum-told) → c .before .before .before .before .before .args .b ≤ c .before .before .before .before .before .args .h .length
+within c = ltb-false (c .before .before .before .before .before .args .h .length) (c .before .before .before .before .before .args .b) (own c .1 .1 .0)
+
+put-positions-requires : tie.Need-put-positions-requires
+put-positions-requires c κs =
+    let z = known (c .before) in
+    (span (c .before), omega (arith, within (c .before), z .words, z .step, z .long), fine (c .before), omega (arith, z .words, z .most))
+
+put-positions-requires-2 : tie.Need-put-positions-requires-2
+put-positions-requires-2 c κs =
+    let z = known (c .before .before .before .before .before) in
+    let put = c .before .before .before .put-positions .ensures in
+    (z .long, omega (arith, put .long, z .words, z .step), omega arith, omega (arith, put .long, z .words, z .most))
+
+lay-counters-requires : tie.Need-lay-counters-requires
+lay-counters-requires c κs =
+    let z = known (c .before .before .before .before .before .before .before .before .before .before) in
+    let put = c .before .before .before .before .before .before .before .before .put-positions .ensures in
+    let wipe = c .before .before .before .before .put-positions2 .ensures in
+    (omega (arith, put .long, wipe .long, z .words, z .step), z .counters, omega (arith, z .least), omega (arith, z .most))
+
+returns : tie.Need-returns
+returns c =
+    let a = c .before .before .before .before .before .before .args in
+    unless-refused (fillTable (a .h) (length (a .words .now)) (length (a .counters .now)) (a .a) (a .b) (a .v)) (c .before .before .before .check-fill .result)
+    (c .before .r .given .0 .0) (stays (a .h) (a .words .now) (a .counters .now)) _ (c .before .before .before .check-fill .ensures) (c .before .r .given .1)
+
+same-length : tie.Need-same-length
+same-length c = search needs
+
+same-length-2 : tie.Need-same-length-2
+same-length-2 c = search needs
+
+returns-2 : tie.Need-returns-2
+returns-2 c =
+    let e = c .before .before .before .before .before .before .before .before .before .before .before .before .before in
+    let a = e .before .before .before .before .before .args in
+    let put = c .before .before .before .before .before .before .before .before .before .before .before .put-positions in
+    let wipe = c .before .before .before .before .before .before .before .put-positions2 in
+    let laid = c .before .before .lay-counters in
+    let z = known e in
+    let whole : 512 * (a .h .capacity / 512) ≡ a .h .capacity = omega (arith, z .step) in
+    fill-done (a .h) (a .words .now) (put .last .0) (wipe .last .0) (a .counters .now) (laid .last .1 .0) (a .a) (a .b) (a .v) (laid .result) z
+    (put .ensures) (wipe .ensures) (λ k. c .before .before .before .before .before .slice-known4 .given k .fits) (laid .kept .1 .0)
+    (laid .ensures .0 ∙ ap (ones (bitAt (wipe .last .0))) whole) (laid .ensures .1)
+    ∙ unless-passed (fillTable (a .h) (length (a .words .now)) (length (a .counters .now)) (a .a) (a .b) (a .v)) (e .before .before .check-fill .result)
+    (stays (a .h) (a .words .now) (a .counters .now)) _ (e .before .before .check-fill .ensures) (e .enum-told .given .1)
+
+pub fill-spec : {M : Type 1} → statement M
+fill-spec =
+    tie.close
+    (tie.spec
+    check-fill-requires
+    enum-known-r
+    enum-told
+    put-positions-requires
+    put-positions-requires-2
+    lay-counters-requires
+    returns
+    same-length
+    same-length-2
+    returns-2)

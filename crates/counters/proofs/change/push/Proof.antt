@@ -1,0 +1,141 @@
+-- `counters::change::push` meets its contract. Assumes nothing.
+use mathlib.Core.Path.{_≡_, sym, ap, _∙_, subst}
+use mathlib.Core.List.{[], _∷_}
+use mathlib.Core.Option.{none}
+use Prim.Native.Nat.{ℕ, _+_, _≤_, _<_}
+use native.Mathlib.Omega.{arith}
+use borrow.Author.Needs.{needs}
+use lib.Dec.{leb, ltb}
+use lib.ListN.{length}
+use borrow.Author.Tests.{leb-false, ltb-false}
+use Rattle.words.specs.declared.handle.Handle.{Handle}
+use Rattle.words.specs.Refusals.{_⇒_, judge}
+use Rattle.words.specs.Calls.{valueLine}
+use Rattle.words.proofs.CheckLaws.{judged-pass, passed-both, passes, Passes}
+use Rattle.counters.specs.Promises.{done, Outcome, MovedTold, outcome, stays}
+use Rattle.counters.specs.Calls.{checks, pushTable, Pushed}
+use Rattle.counters.proofs.PromiseLaws.{promise-refused, Sizes, sizes-of, push-zero, push-one}
+use Rattle.counters.proofs.change.push.Statement.{statement}
+use Rattle.counters.proofs.change.push.Tie as tie
+
+check-push-requires : tie.Need-check-push-requires
+check-push-requires c κs = search needs
+
+enum-known-r : tie.Need-enum-known-r
+enum-known-r c = search needs
+
+enum-told : tie.Need-enum-told
+enum-told c = search needs
+
+-- the table passes
+passed : (c : tie.After-enum-told)
+    → judge (pushTable (c .before .before .before .before .before .args .h) (length (c .before .before .before .before .before .args .words .now))
+    (length (c .before .before .before .before .before .args .counters .now)) (c .before .before .before .before .before .args .v)) ≡ none
+passed c =
+    let a = c .before .before .before .before .before .args in
+    judged-pass (pushTable (a .h) (length (a .words .now)) (length (a .counters .now)) (a .v)) (c .before .before .check-push .result)
+    (c .before .before .check-push .ensures) (c .enum-told .given .1)
+
+-- what the checks leave
+known : (c : tie.After-enum-told)
+    → Sizes (c .before .before .before .before .before .args .h) (c .before .before .before .before .before .args .words .now)
+    (c .before .before .before .before .before .args .counters .now)
+known c =
+    let a = c .before .before .before .before .before .args in
+    sizes-of (a .h) (a .words .now) (a .counters .now) (valueLine (a .v) ∷ (leb (a .h .capacity) (a .h .length) ⇒ 7) ∷ []) (passed c)
+
+-- and its own lines
+own : (c : tie.After-enum-told) → Passes (valueLine (c .before .before .before .before .before .args .v) ∷ (leb (c .before .before .before .before .before .args .h .capacity) (c .before .before .before .before .before .args .h .length) ⇒ 7) ∷ [])
+own c =
+    let a = c .before .before .before .before .before .args in
+    passes (valueLine (a .v) ∷ (leb (a .h .capacity) (a .h .length) ⇒ 7) ∷ []) (passed-both (checks (a .h) (length (a .words .now)) (length (a .counters .now))) (valueLine (a .v) ∷ (leb (a .h .capacity) (a .h .length) ⇒ 7) ∷ []) (passed c) .1)
+
+room : (c : tie.After-enum-told)
+    → c .before .before .before .before .before .args .h .length < c .before .before .before .before .before .args .h .capacity
+room c = leb-false _ _ (own c .1 .0)
+
+-- v is 0 or 1
+fine : (c : tie.After-enum-told) → c .before .before .before .before .before .args .v ≤ 1
+fine c = ltb-false 1 (c .before .before .before .before .before .args .v) (own c .0)
+
+add-new : tie.Need-add-new
+add-new c = omega (arith, room c, known c .most)
+
+new-requires : tie.Need-new-requires
+new-requires c κs = search needs
+
+put-position-requires : tie.Need-put-position-requires
+put-position-requires c κs =
+    let e = c .before .before in
+    let z = known e in
+    (omega (arith, room e, z .words, z .step), fine e)
+
+-- the answer with the next handle, as the definition writes it
+next : (c : tie.After-new) (number : ℕ) → (o : Outcome MovedTold → Type 0) → (vs ds : mathlib.Core.List.List ℕ)
+    → o (outcome (done (Rattle.words.specs.Handles.handle (c .before .before .before .before .before .before .args .h .capacity)
+    (c .before .before .before .before .before .before .args .h .length + 1)) (c .before .before .before .before .before .before .args .h .length) number) vs ds)
+    → o (outcome (done (c .new .result) (c .before .before .before .before .before .before .args .h .length) number) vs ds)
+next c number o vs ds =
+    subst (λ (g : Handle). o (outcome (done g (c .before .before .before .before .before .before .args .h .length) number) vs ds)) (sym (c .new .ensures))
+
+same-length : tie.Need-same-length
+same-length c = search needs
+
+returns : tie.Need-returns
+returns c =
+    let n = c .before .before .before .before .before in
+    let e = n .before in
+    let a = e .before .before .before .before .before .args in
+    let put = c .before .before .before .put-position in
+    next n 0 (Pushed (a .h) (a .v) (a .words .now) (a .counters .now)) (put .last .0) (a .counters .now)
+    (push-zero (a .h) (a .words .now) (put .last .0) (a .counters .now) (a .v) (known e) (room e) (put .ensures)
+    (λ k. c .before .slice-known3 .given k .fits) (passed e) (c .if1 .taken))
+
+raise-path-requires : tie.Need-raise-path-requires
+raise-path-requires c κs =
+    let e = c .before .before .before .before .before .before .before in
+    let z = known e in
+    (z .counters, omega (arith, z .least), omega (arith, z .most), omega (arith, room e, z .step))
+
+returns-2 : tie.Need-returns-2
+returns-2 c =
+    let a = c .before .before .before .before .before .before .args in
+    promise-refused (pushTable (a .h) (length (a .words .now)) (length (a .counters .now)) (a .v)) (stays (a .h) (a .words .now) (a .counters .now)) _ _ _
+    (c .before .before .before .check-push .result) (c .before .r .given .0 .0) (c .before .before .before .check-push .ensures) (c .before .r .given .1)
+
+same-length-2 : tie.Need-same-length-2
+same-length-2 c = search needs
+
+same-length-3 : tie.Need-same-length-3
+same-length-3 c = search needs
+
+returns-3 : tie.Need-returns-3
+returns-3 c =
+    let n = c .before .before .before .before .before .before .before .before .before in
+    let e = n .before in
+    let a = e .before .before .before .before .before .args in
+    let put = c .before .before .before .before .before .before .before .put-position in
+    let raised = c .before .before .raise-path in
+    let one : a .v ≡ 1 = omega (arith, fine e, c .before .before .before .before .if1 .left) in
+    next n (raised .result) (Pushed (a .h) (a .v) (a .words .now) (a .counters .now)) (put .last .0) (raised .last .0)
+    (push-one (a .h) (a .words .now) (put .last .0) (a .counters .now) (a .v) (known e) (room e) (put .ensures)
+    (λ k. c .before .before .before .before .before .slice-known3 .given k .fits) (passed e) (raised .result) (raised .last .0) one
+    (raised .ensures .0) (raised .ensures .1))
+
+pub push-spec : {M : Type 1} → statement M
+push-spec =
+    tie.close
+    (tie.spec
+    check-push-requires
+    enum-known-r
+    enum-told
+    add-new
+    new-requires
+    put-position-requires
+    same-length
+    returns
+    raise-path-requires
+    returns-2
+    same-length-2
+    same-length-3
+    returns-3)

@@ -1,0 +1,112 @@
+-- `counters::change::truncate` meets its contract. Assumes nothing.
+use mathlib.Core.Path.{_≡_, sym, ap, _∙_, subst}
+use mathlib.Core.List.{[], _∷_}
+use mathlib.Core.Option.{none}
+use Prim.Native.Nat.{ℕ, _*_, _/_, _≤_, _<_}
+use native.Mathlib.Omega.{arith}
+use borrow.Author.Needs.{needs}
+use lib.Dec.{leb, ltb}
+use lib.ListN.{length}
+use borrow.Author.Tests.{leb-false, ltb-false}
+use Rattle.words.specs.declared.handle.Handle.{Handle}
+use Rattle.words.specs.Bits.{bitAt, ones}
+use Rattle.words.specs.Refusals.{_⇒_, judge}
+use Rattle.words.specs.Calls.{withinLine}
+use Rattle.words.proofs.CheckLaws.{judged-pass, passed-both, passes, Passes, unless-refused, unless-passed}
+use Rattle.counters.specs.Promises.{done, Outcome, MovedTold, outcome, stays}
+use Rattle.counters.specs.Calls.{checks, truncateTable}
+use Rattle.counters.proofs.PromiseLaws.{Sizes, sizes-of, truncate-done}
+use Rattle.counters.proofs.change.truncate.Statement.{statement}
+use Rattle.counters.proofs.change.truncate.Tie as tie
+
+check-truncate-requires : tie.Need-check-truncate-requires
+check-truncate-requires c κs = search needs
+
+enum-known-r : tie.Need-enum-known-r
+enum-known-r c = search needs
+
+enum-told : tie.Need-enum-told
+enum-told c = search needs
+
+-- the table passes
+passed : (c : tie.After-enum-told)
+    → judge (truncateTable (c .before .before .before .before .before .args .h) (length (c .before .before .before .before .before .args .words .now))
+    (length (c .before .before .before .before .before .args .counters .now)) (c .before .before .before .before .before .args .n)) ≡ none
+passed c =
+    let a = c .before .before .before .before .before .args in
+    judged-pass (truncateTable (a .h) (length (a .words .now)) (length (a .counters .now)) (a .n)) (c .before .before .check-truncate .result)
+    (c .before .before .check-truncate .ensures) (c .enum-told .given .1)
+
+-- what the checks leave
+known : (c : tie.After-enum-told)
+    → Sizes (c .before .before .before .before .before .args .h) (c .before .before .before .before .before .args .words .now)
+    (c .before .before .before .before .before .args .counters .now)
+known c =
+    let a = c .before .before .before .before .before .args in
+    sizes-of (a .h) (a .words .now) (a .counters .now) (withinLine (a .h) (a .n) ∷ []) (passed c)
+
+-- and its own lines
+own : (c : tie.After-enum-told) → Passes (withinLine (c .before .before .before .before .before .args .h) (c .before .before .before .before .before .args .n) ∷ [])
+own c =
+    let a = c .before .before .before .before .before .args in
+    passes (withinLine (a .h) (a .n) ∷ []) (passed-both (checks (a .h) (length (a .words .now)) (length (a .counters .now))) (withinLine (a .h) (a .n) ∷ []) (passed c) .1)
+
+within : (c : tie.After-enum-told) → c .before .before .before .before .before .args .n ≤ c .before .before .before .before .before .args .h .length
+within c = ltb-false (c .before .before .before .before .before .args .h .length) (c .before .before .before .before .before .args .n) (own c .0)
+
+put-positions-requires : tie.Need-put-positions-requires
+put-positions-requires c κs =
+    let z = known (c .before) in
+    (omega (arith, within (c .before), z .long), omega (arith, z .words, z .step), omega arith, omega (arith, z .words, z .most))
+
+lay-counters-requires : tie.Need-lay-counters-requires
+lay-counters-requires c κs =
+    let z = known (c .before .before .before .before .before .before) in
+    let wipe = c .before .before .before .before .put-positions .ensures in
+    (omega (arith, wipe .long, z .words, z .step), z .counters, omega (arith, z .least), omega (arith, z .most))
+
+new-requires : tie.Need-new-requires
+new-requires c κs = search needs
+
+returns : tie.Need-returns
+returns c =
+    let a = c .before .before .before .before .before .before .args in
+    unless-refused (truncateTable (a .h) (length (a .words .now)) (length (a .counters .now)) (a .n)) (c .before .before .before .check-truncate .result)
+    (c .before .r .given .0 .0) (stays (a .h) (a .words .now) (a .counters .now)) _ (c .before .before .before .check-truncate .ensures) (c .before .r .given .1)
+
+same-length : tie.Need-same-length
+same-length c = search needs
+
+same-length-2 : tie.Need-same-length-2
+same-length-2 c = search needs
+
+returns-2 : tie.Need-returns-2
+returns-2 c =
+    let l = c .before in
+    let e = l .before .before .before .before .before .before .before .before .before in
+    let a = e .before .before .before .before .before .args in
+    let wipe = l .before .before .before .before .before .before .before .put-positions in
+    let laid = l .before .before .lay-counters in
+    let z = known e in
+    let whole : 512 * (a .h .capacity / 512) ≡ a .h .capacity = omega (arith, z .step) in
+    ap (λ (g : Handle). outcome (done g (laid .result) 0) (wipe .last .0) (laid .last .1 .0)) (c .new .ensures)
+    ∙ truncate-done (a .h) (a .words .now) (wipe .last .0) (a .counters .now) (laid .last .1 .0) (a .n) (laid .result) z (within e)
+    (wipe .ensures) (λ k. l .before .before .before .before .before .slice-known3 .given k .fits) (laid .kept .1 .0)
+    (laid .ensures .0 ∙ ap (ones (bitAt (wipe .last .0))) whole) (laid .ensures .1)
+    ∙ unless-passed (truncateTable (a .h) (length (a .words .now)) (length (a .counters .now)) (a .n)) (e .before .before .check-truncate .result)
+    (stays (a .h) (a .words .now) (a .counters .now)) _ (e .before .before .check-truncate .ensures) (e .enum-told .given .1)
+
+pub truncate-spec : {M : Type 1} → statement M
+truncate-spec =
+    tie.close
+    (tie.spec
+    check-truncate-requires
+    enum-known-r
+    enum-told
+    put-positions-requires
+    lay-counters-requires
+    new-requires
+    returns
+    same-length
+    same-length-2
+    returns-2)

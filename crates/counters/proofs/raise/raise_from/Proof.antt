@@ -1,0 +1,74 @@
+-- `counters::raise::raise_from` meets its contract. The invariant: the numbers before i are moved where g is at most their place. Assumes nothing.
+use Prim.Native.Nat.{_-_, _≤_}
+use native.Mathlib.Omega.{arith}
+use borrow.Author.Needs.{needs}
+use lib.Dec.{leb}
+use Rattle.counters.proofs.RaiseLaws.{Lanes, lanes-none, lanes-more}
+use Rattle.counters.proofs.raise.raise_from.Statement.{statement}
+use Rattle.counters.proofs.raise.raise_from.Tie as tie
+
+abbrev Inv-loop : tie.InvT-loop
+Inv-loop lanes₀ g d i₀ lanes i = (i ≤ 8) × (Lanes (leb g) d lanes₀ i lanes)
+
+abbrev μ-loop : tie.MeasureT-loop
+μ-loop lanes₀ g d i₀ lanes i = 8 - i
+
+loop-holds : tie.Need-loop-holds Inv-loop μ-loop
+loop-holds c = (omega arith, lanes-none (leb (c .before .args .g)) (c .before .args .d) (c .before .args .lanes .now))
+
+mul-wrapping-add-u32 : tie.Need-mul-wrapping-add-u32 Inv-loop μ-loop
+mul-wrapping-add-u32 c = omega arith
+
+slice-read-wrapping-add-u32 : tie.Need-slice-read-wrapping-add-u32 Inv-loop μ-loop
+slice-read-wrapping-add-u32 c = omega arith
+
+from-requires : tie.Need-from-requires Inv-loop μ-loop
+from-requires c κs = search needs
+
+wrapping-add-u32-requires : tie.Need-wrapping-add-u32-requires Inv-loop μ-loop
+wrapping-add-u32-requires c κs = search needs
+
+mul-lanes : tie.Need-mul-lanes Inv-loop μ-loop
+mul-lanes c = omega arith
+
+slice-write-lanes : tie.Need-slice-write-lanes Inv-loop μ-loop
+slice-write-lanes c = omega arith
+
+add-i : tie.Need-add-i Inv-loop μ-loop
+add-i c = omega arith
+
+loop-less : tie.Need-loop-less Inv-loop μ-loop
+loop-less c = omega arith
+
+loop-again : tie.Need-loop-again Inv-loop μ-loop
+loop-again c =
+    let l = c .before .before .before .before .loop in (
+      omega arith,
+      lanes-more (l .inv .1) (omega arith) (omega (arith, c .before .before .slice-known2 .given (l .i)))
+          (c .before .from .result) (c .wrapping-add-u32 .result) (c .before .from .ensures) (c .wrapping-add-u32 .ensures),
+    )
+
+same-length : tie.Need-same-length Inv-loop μ-loop
+same-length c = c .before .loop .inv .1 .long
+
+returns : tie.Need-returns Inv-loop μ-loop
+returns c i h = c .before .loop .inv .1 .moved i (omega arith)
+
+pub raise-from-spec : {M : Type 1} → statement M
+raise-from-spec =
+    tie.close
+    (tie.spec
+    Inv-loop
+    μ-loop
+    loop-holds
+    mul-wrapping-add-u32
+    slice-read-wrapping-add-u32
+    from-requires
+    wrapping-add-u32-requires
+    mul-lanes
+    slice-write-lanes
+    add-i
+    loop-less
+    loop-again
+    same-length
+    returns)

@@ -1,0 +1,7 @@
+pub mod Tree
+pub mod Record
+pub mod Promises
+pub mod Calls
+pub mod Working
+pub mod Laying
+pub mod Descent

@@ -1,0 +1,92 @@
+// The calls that read a record: count, find and check. They write nothing.
+ghost use mathlib.Core.Path.{_≡_};
+ghost use mathlib.Core.Bool.{cond};
+ghost use Prim.Native.Nat.{_-_, _≤_};
+ghost use lib.Dec.{eqb};
+ghost use Rattle.words.specs.Refusals.{toldOf};
+ghost use Rattle.counters.specs.Calls.{Ranked, Selected, Verified};
+use super::check::check_rank;
+use super::check::check_record;
+use super::check::check_select;
+use super::rank::ones_before;
+use super::select::ones_held;
+use super::select::select_position;
+use super::verify::counters_fit;
+use words::handle::BLOCK_BITS;
+use words::handle::Handle;
+use words::refusal::Answer;
+use words::refusal::Refusal;
+use words::refusal::Verdict;
+use words::scan::first_from;
+
+// The number of v among n bits of which `ones` are ones.
+fn of_value(v: u64, n: usize, ones: usize) -> usize
+    requires { ⌜ ones ≤ n ⌝ }
+    ensures { λ r. ⌜ r ≡ cond (eqb v 1) ones (n - ones) ⌝ }
+{
+    if v == 1 { ones } else { n - ones }
+}
+
+// count(v, i): how many of the first i bits equal v.
+pub fn rank(h: Handle, words: &[u64], counters: &[u32], v: u64, i: usize) -> Answer
+    ensures { λ r. ⌜ Ranked h v i (now (words .entry)) (now (counters .entry)) (toldOf r) ⌝ }
+{
+    match check_rank(h, words.len(), counters.len(), v, i) {
+        Verdict::Refuse(r) => Answer::Refused(r),
+        Verdict::Pass => {
+            let capacity = h.capacity;
+            let ones = ones_before(words, counters, capacity / BLOCK_BITS, i);
+            if i < ones {
+                return Answer::Refused(Refusal::Unfit);
+            }
+            Answer::Value(of_value(v, i, ones) as u64)
+        }
+    }
+}
+
+// find(v, k): the position that holds v and has k of v before it.
+pub fn select(h: Handle, words: &[u64], counters: &[u32], v: u64, k: usize) -> Answer
+    ensures { λ r. ⌜ Selected h v k (now (words .entry)) (now (counters .entry)) (toldOf r) ⌝ }
+{
+    match check_select(h, words.len(), counters.len(), v) {
+        Verdict::Refuse(r) => Answer::Refused(r),
+        Verdict::Pass => {
+            let capacity = h.capacity;
+            let n = h.length;
+            let blocks = capacity / BLOCK_BITS;
+            let ones = ones_held(counters, blocks);
+            if n < ones {
+                return Answer::Refused(Refusal::Unfit);
+            }
+            if of_value(v, n, ones) <= k {
+                return Answer::Refused(Refusal::NotFound);
+            }
+            let p = select_position(words, counters, blocks, v, k);
+            if p < n {
+                Answer::Value(p as u64)
+            } else {
+                Answer::Refused(Refusal::Unfit)
+            }
+        }
+    }
+}
+
+// check: the ones held, or 9 where the record does not fit.
+pub fn verify(h: Handle, words: &[u64], counters: &[u32]) -> Answer
+    ensures { λ r. ⌜ Verified h (now (words .entry)) (now (counters .entry)) (toldOf r) ⌝ }
+{
+    match check_record(h, words.len(), counters.len()) {
+        Verdict::Refuse(r) => Answer::Refused(r),
+        Verdict::Pass => {
+            let capacity = h.capacity;
+            let blocks = capacity / BLOCK_BITS;
+            if first_from(words, capacity, 1, h.length) < capacity {
+                return Answer::Refused(Refusal::Unfit);
+            }
+            if !counters_fit(words, counters, blocks) {
+                return Answer::Refused(Refusal::Unfit);
+            }
+            Answer::Value(ones_held(counters, blocks) as u64)
+        }
+    }
+}
