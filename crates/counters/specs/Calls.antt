@@ -89,7 +89,7 @@ rankTable h words counters v i = checks h words counters ++ (valueLine v ∷ wit
 
 abbrev pub Ranked : Handle → ℕ → ℕ → List ℕ → List ℕ → Told → Type 0
 Ranked h v i ws cs =
-    Promise Told (judge (rankTable h (length ws) (length cs) v i)) refused (value (rank (held h ws) v i)) (Fits h ws cs) (AtMost (h .length))
+    Promise Told (judge (rankTable h (length ws) (length cs) v i)) refused (value (rank (held h ws) v i)) (Fits h ws cs) (AtMost 9 (h .length))
 
 -- find(v, k): 1, 2, 3; 8; then 6 no such stroke, that is k not below the number of v; then 9
 abbrev pub selectTable : Handle → ℕ → ℕ → ℕ → List Line
@@ -97,7 +97,7 @@ selectTable h words counters v = checks h words counters ++ (valueLine v ∷ [])
 
 abbrev pub Selected : Handle → ℕ → ℕ → List ℕ → List ℕ → Told → Type 0
 Selected h v k ws cs =
-    Promise Told (judge (selectTable h (length ws) (length cs) v)) refused (found (select (held h ws) v k)) (Fits h ws cs) (Below (h .length))
+    Promise Told (judge (selectTable h (length ws) (length cs) v)) refused (found (select (held h ws) v k)) (Fits h ws cs) (Below 9 (h .length))
 
 -- check: 1, 2, 3; 9 exactly where the record does not fit, else the ones
 pub record Verified (h : Handle) (ws cs : List ℕ) (o : Told) : Type 0 where

@@ -71,13 +71,13 @@ pub data Near (h g : Handle) (x p b : ℕ) (ws cs : List ℕ) : Outcome MovedTol
   near : (number : ℕ) (vs ds : List ℕ) → number ≤ 45 → BitPut p b ws vs → PathMoved (blocksOf (h .capacity)) p cs ds
       → Near h g x p b ws cs (outcome (done g x number) vs ds)
 
--- count on any record: at most n, or 9
-pub data AtMost (n : ℕ) : Told → Type 0 where
-  is : (x : ℕ) → x ≤ n → AtMost n (value x)
-  unfit : AtMost n (refused 9)
+-- a count on any record or row: at most n, or the refusal that it is wrong
+pub data AtMost (wrong n : ℕ) : Told → Type 0 where
+  is : (x : ℕ) → x ≤ n → AtMost wrong n (value x)
+  unfit : AtMost wrong n (refused wrong)
 
--- find on any record: a position below n, or 6, or 9
-pub data Below (n : ℕ) : Told → Type 0 where
-  is : (x : ℕ) → x < n → Below n (value x)
-  absent : Below n (refused 6)
-  unfit : Below n (refused 9)
+-- a find on any record or row: a position below n, or 6, or the refusal that it is wrong
+pub data Below (wrong n : ℕ) : Told → Type 0 where
+  is : (x : ℕ) → x < n → Below wrong n (value x)
+  absent : Below wrong n (refused 6)
+  unfit : Below wrong n (refused wrong)
