@@ -8,11 +8,10 @@ use native.Mathlib.Omega.{arith}
 use lib.Dec.{leb, ltb, eqb}
 use borrow.Author.Tests.{le-leb, lt-leb, lt-ltb, le-ltb, eq-eqb, ne-eqb, eqb-true, eqb-false}
 use Rattle.words.specs.Bits.{ones}
-use Rattle.words.proofs.Sums.{lt-or, ones-zero, ones-suc, ones-split, ones-ext, ones-const, ones-outside}
-use Rattle.words.proofs.LaneLaws.{ones-most}
+use Rattle.words.proofs.Sums.{lt-or, ones-zero, ones-suc, ones-split, ones-ext, ones-most, ones-none, ones-outside, ones-range}
 use Rattle.words.proofs.BoolLaws.{and-intro}
 use Rattle.counters.specs.Tree.{nodes, height, childBits, fromChild, toChild, counter, childOf, slot, counts, changed}
-use Rattle.counters.proofs.TreeLaws.{childBits-pos, childOf-one, childOf-suc, height-le, nodes-zero, nodes-suc, prefix, counter-prefix, from-summary, to-summary, from-key, to-key, from-to}
+use Rattle.counters.proofs.TreeLaws.{childBits-pos, childOf-suc, height-le, nodes-cover, prefix, counter-prefix, from-summary, to-summary, from-key, to-key, from-to}
 
 -- ---- one bit more
 -- g has one more than f at p, and is f elsewhere
@@ -26,7 +25,7 @@ ones-flip {f} {g} {p} h n = go (lt-or p n)
   where
     go : (p < n) ⊎ (n ≤ p) → ones g n ≡ ones f n + cond (ltb p n) 1 0
     go (inl l) =
-        let o = ones-outside g f p (suc p) n (omega arith) l (λ q k. h .else q (λ e. omega arith)) (λ q k. h .else q (λ e. omega arith)) in
+        let o = ones-outside g f p (suc p) n (omega arith) l (λ q k. h .else q (λ e. omega arith)) (λ q k u. h .else q (λ e. omega arith)) in
         rw (lt-ltb p n l) (omega (arith, o .0, o .1, ones-suc f p, ones-suc g p, h .up))
     go (inr l) = rw (le-ltb p n l) (ones-ext g f n (λ q k. h .else q (λ e. omega arith)) ∙ omega arith)
 
@@ -47,25 +46,38 @@ pub prefix-flip : {f g : ℕ → ℕ} {p : ℕ} → OneMore f g p → (t m : ℕ
 prefix-flip {f} {g} {p} h t m =
     ones-flip h (childBits (suc t) * m) ∙ ap (λ (b : Bool). prefix f (suc t) m + cond b 1 0) (child-below t p m)
 
+-- ---- a number and two ends
+-- it is between them
+pub between-in : (a b c : ℕ) → a ≤ c → c < b → (leb a c && ltb c b) ≡ true
+between-in a b c h l = and-intro (le-leb a c h) (lt-ltb c b l)
+
+-- or before the lower
+pub between-before : (a b c : ℕ) → c < a → (leb a c && ltb c b) ≡ false
+between-before a b c h = rw (lt-leb a c h)
+
+-- or past the upper
+pub between-past : (a b c : ℕ) → b ≤ c → (leb a c && ltb c b) ≡ false
+between-past a b c h = go (leb a c) (le-ltb c b h)
+  where
+    go : (t : Bool) {u : Bool} → u ≡ false → (t && u) ≡ false
+    go true e = e
+    go false e = refl
+
 -- ---- the counters that count a stroke
 -- its child is one of those that the counter gives
 pub counts-in : (t j i p : ℕ) → 64 * j + fromChild i ≤ childOf t p → childOf t p < 64 * j + toChild i → counts t j i p ≡ true
 unfolding counts
-counts-in t j i p a b = and-intro (le-leb (64 * j + fromChild i) (childOf t p) a) (lt-ltb (childOf t p) (64 * j + toChild i) b)
+counts-in t j i p a b = between-in (64 * j + fromChild i) (64 * j + toChild i) (childOf t p) a b
 
 -- its child is before them
 pub counts-before : (t j i p : ℕ) → childOf t p < 64 * j + fromChild i → counts t j i p ≡ false
 unfolding counts
-counts-before t j i p a = rw (lt-leb (64 * j + fromChild i) (childOf t p) a)
+counts-before t j i p a = between-before (64 * j + fromChild i) (64 * j + toChild i) (childOf t p) a
 
 -- its child is past them
 pub counts-past : (t j i p : ℕ) → 64 * j + toChild i ≤ childOf t p → counts t j i p ≡ false
 unfolding counts
-counts-past t j i p a = go (leb (64 * j + fromChild i) (childOf t p)) (le-ltb (childOf t p) (64 * j + toChild i) a)
-  where
-    go : (b : Bool) {c : Bool} → c ≡ false → (b && c) ≡ false
-    go true e = e
-    go false e = refl
+counts-past t j i p a = between-past (64 * j + fromChild i) (64 * j + toChild i) (childOf t p) a
 
 -- a test between two ends is the test at the upper less that at the lower
 between-test : (a b c : ℕ) → a ≤ b → cond (leb a c && ltb c b) 1 0 + cond (ltb c a) 1 0 ≡ cond (ltb c b) 1 0
@@ -93,14 +105,8 @@ counter-flip {f} {g} {p} h (suc t) j i a l =
 ones-between : (f : ℕ → ℕ) (a e n : ℕ) → a ≤ e → e ≤ n → ((i : ℕ) → i < a → f i ≡ 0) → ((i : ℕ) → a ≤ i → i < e → f i ≡ 1)
     → ((i : ℕ) → e ≤ i → i < n → f i ≡ 0) → ones f n ≡ e - a
 ones-between f a e n la le under inside over =
-    let mid : a + (e - a) ≡ e = omega arith in
-    let end : e + (n - e) ≡ n = omega arith in
-    let s1 : ones f e ≡ ones f a + ones (λ i. f (a + i)) (e - a) = rw mid at (ones-split f a (e - a)) in
-    let s2 : ones f n ≡ ones f e + ones (λ i. f (e + i)) (n - e) = rw end at (ones-split f e (n - e)) in
-    let c1 : ones f a ≡ a * 0 = ones-const f 0 a under in
-    let c2 : ones (λ i. f (a + i)) (e - a) ≡ (e - a) * 1 = ones-const (λ i. f (a + i)) 1 (e - a) (λ i l. inside (a + i) (omega arith) (omega arith)) in
-    let c3 : ones (λ i. f (e + i)) (n - e) ≡ (n - e) * 0 = ones-const (λ i. f (e + i)) 0 (n - e) (λ i l. over (e + i) (omega arith) (omega arith)) in
-    omega (arith, s1, s2, c1, c2, c3)
+    let none : (m : ℕ) → ones (λ _. 0) m ≡ 0 = (λ m. ones-none (λ _. 0) m (λ j l. refl)) in
+    omega (arith, ones-range f (λ _. 0) a e n 1 la le under inside over, none n, none e, none a)
 
 -- 1 for a test that holds
 yes-one : {b : Bool} → b ≡ true → cond {A = ℕ} b 1 0 ≡ 1
@@ -141,7 +147,7 @@ node-changed t j p = go (eqb j (childOf t p / 64)) refl
         ∙ ap₂ (λ (x y : ℕ). x + y) (summaries-changed t j p (slot t p) c l) (keys-changed t j p (slot t p) c l)
         ∙ omega arith
     go false e =
-        ones-const (λ i. cond (counts t j i p) 1 0) 0 72 (λ i l. no-zero (none i l (lt-or (childOf t p / 64) j)))
+        ones-none (λ i. cond (counts t j i p) 1 0) 72 (λ i l. no-zero (none i l (lt-or (childOf t p / 64) j)))
       where
         none : (i : ℕ) → i < 72 → (childOf t p / 64 < j) ⊎ (j ≤ childOf t p / 64) → counts t j i p ≡ false
         none i l (inl u) = counts-before t j i p (omega arith)
@@ -150,8 +156,8 @@ node-changed t j p = go (eqb j (childOf t p / 64)) refl
 -- ---- how many counters of all levels count a stroke
 -- the stroke's child of level t + 1 is one of the nodes of level t, or of the blocks
 pub child-there : (n t p : ℕ) → p < 512 * n → childOf (suc t) p < nodes n t
-child-there n zero p h = omega (arith, childOf-one p, nodes-zero n)
-child-there n (suc t) p h = omega (arith, childOf-suc t p, nodes-suc n t, child-there n t p h)
+child-there n t p h =
+    div-lt-iff-lt-mul (childBits-pos t) .1 (rw (mul-comm (nodes n t) (childBits (suc t))) (omega (arith, nodes-cover n t)))
 
 -- the node on the path is there
 pub child-lt : (n t p : ℕ) → 1 ≤ t → p < 512 * n → childOf t p / 64 < nodes n t
@@ -170,8 +176,8 @@ ones-rows f w (suc n) =
 -- a sum with one term that is not 0
 pub ones-only : (f : ℕ → ℕ) (q n : ℕ) → q < n → ((j : ℕ) → (j ≡ q → ⊥) → f j ≡ 0) → ones f n ≡ f q
 ones-only f q n h zeros =
-    let o = ones-outside f (λ _. 0) q (suc q) n (omega arith) h (λ j l. zeros j (λ e. omega arith)) (λ j l. zeros j (λ e. omega arith)) in
-    let none : (m : ℕ) → ones (λ _. 0) m ≡ m * 0 = (λ m. ones-const (λ _. 0) 0 m (λ j l. refl)) in
+    let o = ones-outside f (λ _. 0) q (suc q) n (omega arith) h (λ j l. zeros j (λ e. omega arith)) (λ j l u. zeros j (λ e. omega arith)) in
+    let none : (m : ℕ) → ones (λ _. 0) m ≡ 0 = (λ m. ones-none (λ _. 0) m (λ j l. refl)) in
     omega (arith, o .0, o .1, none n, none (suc q), none q, ones-suc f q)
 
 -- of a level's counters, those of the node on the path alone

@@ -2,19 +2,17 @@
 use mathlib.Core.Path.{_≡_, refl, sym, ap, ap₂, _∙_, subst, fun-ext}
 use mathlib.Core.Logic.{_⊎_, inl, inr}
 use mathlib.Core.List.{List, [], _∷_, _++_}
-use Prim.Native.Nat.{ℕ, zero, suc, _+_, _-_, _*_, _/_, _%_, _^_, _≤_, _<_, zero-le}
-use native.Mathlib.Nat.{one-mul, mul-zero}
+use Prim.Native.Nat.{ℕ, zero, suc, _+_, _-_, _*_, _/_, _%_, _^_, _≤_, _<_}
+use native.Mathlib.Nat.{one-mul}
 use native.Mathlib.Omega.{arith}
-use lib.Dec.{lit<}
 use lib.ListN.{length, getD, replicate, length-append, List·getD-append, List·getD-eq-default, replicate-append-replicate}
 use lib.Seq.{getD-append-add, ext-getD}
 use Rattle.words.specs.Bits.{bit, bitAt, ones, digits, listOf}
 use Rattle.words.specs.Strip.{cell, stripOf}
 use Rattle.words.specs.Handles.{handle}
 use Rattle.words.specs.declared.handle.Handle.{Handle}
-use Rattle.words.proofs.Sums.{lt-or, ones-split, ones-const, ones-le, length-listOf, getD-listOf}
-use Rattle.words.proofs.BitLaws.{bit-high}
-use Rattle.words.proofs.WordLaws.{word-bit}
+use Rattle.words.proofs.Sums.{lt-or, ones-none, ones-flat, ones-le, listOf-is, length-listOf, getD-listOf}
+use Rattle.words.proofs.WordLaws.{word-bit, bitAt-past}
 use Rattle.words.proofs.LaneLaws.{field, digits-ext, digits-at, digits-of}
 use Rattle.words.proofs.StripLaws.{strip-cell, strip-length}
 use Rattle.counters.specs.Tree.{blocksOf, nodes, height, childBits, childOnes, fromChild, toChild, counter, total, counterCount, indexOf, levels}
@@ -120,15 +118,13 @@ module _ (c : ℕ) (s : List ℕ) (whole : c % 512 ≡ 0) (within : length s ≤
           ∙ word-bits (λ j. cell s (64 * (p / 64) + j)) (p % 64) (λ i q. omega (arith, bits (64 * (p / 64) + i))) (omega arith)
           ∙ ap (cell s) (omega arith)
       go (inr l) =
-          ap (λ (w : ℕ). bit w (p % 64)) (List·getD-eq-default (wordsLaid c s) 0 {n = p / 64} (omega (arith, words-length c s)))
-          ∙ bit-high 0 0 (p % 64) (lit< tt) zero-le
+          bitAt-past (wordsLaid c s) p (omega (arith, words-length c s))
           ∙ sym (List·getD-eq-default s 0 {n = p} (omega arith))
 
   -- so the strip is read back
   pub strip-laid : stripOf (wordsLaid c s) (length s) ≡ s
   strip-laid =
-      ext-getD 0 (stripOf (wordsLaid c s) (length s)) s (strip-length (wordsLaid c s) (length s))
-      (λ i l. strip-cell (wordsLaid c s) (length s) i (omega (arith, strip-length (wordsLaid c s) (length s))) ∙ bitAt-laid i)
+      listOf-is (bitAt (wordsLaid c s)) (length s) s refl (λ p l. bitAt-laid p)
 
   -- and the record fits
   pub laid-fits : Fits (handle c (length s)) (wordsLaid c s) (countersLaid c s)
@@ -191,9 +187,7 @@ ones-bound f c n small past = go (lt-or n c)
     go : (n < c) ⊎ (c ≤ n) → ones f n ≤ c
     go (inl l) = omega (arith, ones-le f n small)
     go (inr l) =
-        let e : c + (n - c) ≡ n = omega arith in
-        let none : ones (λ p. f (c + p)) (n - c) ≡ (n - c) * 0 = ones-const (λ p. f (c + p)) 0 (n - c) (λ p q. past (c + p) (omega arith)) in
-        omega (arith, ones-le f c small, none, rw e at (ones-split f c (n - c)))
+        omega (arith, ones-le f c small, ones-flat f c n l past)
 
 -- every counter of an allowed capacity is below 2 ^ 32
 pub counter-lt : (f : ℕ → ℕ) (t j i : ℕ) → i < 72 → ((p : ℕ) → f p ≤ 1) → ((p : ℕ) → 134217728 ≤ p → f p ≡ 0) → counter f t j i < 2 ^ 32
@@ -205,10 +199,7 @@ pub counter-zero : (f : ℕ → ℕ) (t j i : ℕ) → ((p : ℕ) → f p ≡ 0)
 unfolding counter childOnes
 counter-zero f t j i h =
     ones-none (λ m. childOnes f t (64 * j + fromChild i + m)) (toChild i - fromChild i)
-    (λ m. ones-none (λ p. f (childBits t * (64 * j + fromChild i + m) + p)) (childBits t) (λ p. h (childBits t * (64 * j + fromChild i + m) + p)))
-  where
-    ones-none : (g : ℕ → ℕ) (n : ℕ) → ((p : ℕ) → g p ≡ 0) → ones g n ≡ 0
-    ones-none g n z = ones-const g 0 n (λ p l. z p) ∙ mul-zero n
+    (λ m q. ones-none (λ p. f (childBits t * (64 * j + fromChild i + m) + p)) (childBits t) (λ p l. h (childBits t * (64 * j + fromChild i + m) + p)))
 
 -- a list of equal elements
 listOf-same : (f : ℕ → ℕ) (b n : ℕ) → ((p : ℕ) → f p ≡ b) → listOf f n ≡ replicate n b

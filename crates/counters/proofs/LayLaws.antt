@@ -4,60 +4,39 @@ use mathlib.Core.Path.{_≡_, refl, sym, ap, ap₂, _∙_, subst, fun-ext}
 use mathlib.Core.Bool.{Bool, true, false, not}
 use mathlib.Core.Logic.{_⊎_, inl, inr}
 use mathlib.Core.List.{List}
-use Prim.Native.Nat.{ℕ, zero, suc, _+_, _-_, _*_, _/_, _%_, _^_, _≤_, _<_, zero-le}
-use native.Mathlib.Nat.{mul-zero, mul-assoc, mul-comm, mul-le-mul-left, mod-eq-of-lt, mod-add-mod, add-mod, le-refl}
+use Prim.Native.Nat.{ℕ, zero, suc, _+_, _-_, _*_, _/_, _%_, _^_, _≤_, _<_}
+use native.Mathlib.Nat.{mul-le-mul-left, mod-eq-of-lt, mod-add-mod, add-mod, le-refl}
 use native.Mathlib.Numerals.{add-one}
 use native.Mathlib.Omega.{arith}
 use lib.Dec.{lit<}
 use borrow.Author.Count.{below-more}
 use borrow.Author.Tests.{lt-ltb, le-ltb, not-true, not-false}
-use lib.ListN.{length, getD, set, take, drop, length-set, List·getD-eq-default}
-use lib.Seq.{ext-getD, getD-set-other}
-use Rattle.words.specs.Bits.{bit, bitAt, ones, listOf}
-use Rattle.words.proofs.Sums.{lt-or, ones-zero, ones-more, ones-split, ones-ext, ones-const, ones-le, length-listOf, getD-listOf}
-use Rattle.words.proofs.BitLaws.{bit-high}
-use Rattle.words.proofs.WordLaws.{bitAt-le}
-use Rattle.counters.specs.Tree.{nodes, height, childBits, childOnes, fromChild, toChild, counter, counterCount, total, indexOf}
+use lib.ListN.{length, getD, set, take, drop, length-set}
+use lib.Seq.{getD-set-other}
+use Rattle.words.specs.Bits.{bitAt, ones, listOf}
+use Rattle.words.proofs.Sums.{lt-or, ones-zero, ones-more, ones-split, ones-ext, ones-none, ones-le, listOf-is, part-at, getD-listOf}
+use Rattle.words.proofs.WordLaws.{bitAt-le, bitAt-past, block-bit}
+use Rattle.counters.specs.Tree.{nodes, height, childBits, childOnes, fromChild, toChild, counter, counterCount, indexOf}
 use Rattle.counters.specs.Working.{nodeFrom, nodeOnes, LevelFits, AllFit, Decides}
 use Rattle.counters.specs.Laying.{NodeAt, NodeLaid, childrenOf, LevelFrom}
-use Rattle.counters.proofs.TreeLaws.{nodes-zero, nodes-suc, nodes-more, nodes-pos, nodes-root, height-pos, childBits-one, childBits-suc, prefix, prefix-zero, prefix-up, prefix-suc, from-summary, to-summary, from-key, to-key, from-to, counter-prefix, start, index-is, start-next, start-zero, total-mono}
+use Rattle.counters.proofs.TreeLaws.{nodes-zero, nodes-suc, root-there, height-pos, nodes-cover, childBits-one, prefix-suc, from-summary, to-summary, from-key, to-key, from-to, start, index-is, start-next, Level, level-blocks, level-next, level-room, total-mono}
+use Rattle.counters.proofs.FitLaws.{fit-at, counter-ones, root-ones}
 use Rattle.counters.proofs.LaidLaws.{ones-bound, counter-lt}
-use Rattle.counters.proofs.SpliceLaws.{part-at, set-more, splice, splice-length, splice-below, splice-in, splice-above}
+use Rattle.counters.proofs.SpliceLaws.{set-more, splice, splice-length, splice-below, splice-in, splice-above}
 
 -- ---- the ones of a block
--- bit p of n words from word k on
-pub part-bit : (ws : List ℕ) (k n p : ℕ) → p < 64 * n → bitAt (take n (drop k ws)) p ≡ bitAt ws (64 * k + p)
-part-bit ws k n p h =
-    ap (λ (w : ℕ). bit w (p % 64)) (part-at ws k n (p / 64) (omega arith))
-    ∙ ap₂ (λ (a b : ℕ). bit (getD ws a 0) b) (omega arith) (omega arith)
-
 -- the words of block m hold its ones
 pub block-there : (ws : List ℕ) (m k : ℕ) → k ≡ 8 → ones (bitAt (take k (drop (8 * m) ws))) 512 ≡ childOnes (bitAt ws) 1 m
 unfolding childOnes
 block-there ws m k e =
     ones-ext (bitAt (take k (drop (8 * m) ws))) (λ p. bitAt ws (512 * m + p)) 512
-    (λ p h. part-bit ws (8 * m) k p (omega arith) ∙ ap (bitAt ws) (omega arith))
+    (λ p h. block-bit ws m k p e h)
     ∙ ap (λ (b : ℕ). ones (λ p. bitAt ws (b * m + p)) b) (sym childBits-one)
 
--- the bits past the words are 0
-pub bits-past : (ws : List ℕ) (p : ℕ) → 64 * length ws ≤ p → bitAt ws p ≡ 0
-bits-past ws p h =
-    ap (λ (w : ℕ). bit w (p % 64)) (List·getD-eq-default ws 0 {n = p / 64} (omega arith)) ∙ bit-high 0 0 (p % 64) (lit< tt) zero-le
-
--- bits that are 0 from c on: no ones from a on
-ones-past : (f : ℕ → ℕ) (c a n : ℕ) → ((p : ℕ) → c ≤ p → f p ≡ 0) → c ≤ a → ones (λ p. f (a + p)) n ≡ 0
-ones-past f c a n past h = ones-const (λ p. f (a + p)) 0 n (λ p l. past (a + p) (omega arith)) ∙ mul-zero n
-
--- so their sum stays
-ones-flat : (f : ℕ → ℕ) (c k : ℕ) → ((p : ℕ) → c ≤ p → f p ≡ 0) → c ≤ k → ones f k ≡ ones f c
-ones-flat f c k past h =
-    let e : c + (k - c) ≡ k = omega arith in
-    omega (arith, ones-past f c c (k - c) past (le-refl c), ap (ones f) e, ones-split f c (k - c))
-
--- and a child past them holds none
+-- bits that are 0 from c on: a child past them holds none
 pub child-past : (f : ℕ → ℕ) (c t m : ℕ) → ((p : ℕ) → c ≤ p → f p ≡ 0) → c ≤ childBits t * m → childOnes f t m ≡ 0
 unfolding childOnes
-child-past f c t m past h = ones-past f c (childBits t * m) (childBits t) past h
+child-past f c t m past h = ones-none (λ p. f (childBits t * m + p)) (childBits t) (λ p l. past (childBits t * m + p) (omega arith))
 
 -- a block holds at most 512 ones
 pub block-le : (ws : List ℕ) (m : ℕ) → childOnes (bitAt ws) 1 m ≤ 512
@@ -68,7 +47,7 @@ block-le ws m =
 -- a block that is not there
 pub block-past : (ws : List ℕ) (m : ℕ) → length ws % 8 ≡ 0 → length ws < 8 * m + 8 → childOnes (bitAt ws) 1 m ≡ 0
 block-past ws m whole h =
-    child-past (bitAt ws) (64 * length ws) 1 m (bits-past ws) (rw childBits-one (omega arith))
+    child-past (bitAt ws) (64 * length ws) 1 m (bitAt-past ws) (rw childBits-one (omega arith))
 
 -- ---- the ones of a node, by its last summary and its last key
 -- a node that is there
@@ -107,7 +86,7 @@ sums-more ts i =
 -- a part's sum
 pub part-sums : (ts : List ℕ) (a n i : ℕ) → i ≤ n → sums (take n (drop a ts)) i ≡ ones (λ m. getD ts (a + m) 0) i
 part-sums ts a n i h =
-    ones-ext (λ m. getD (take n (drop a ts)) m 0) (λ m. getD ts (a + m) 0) i (λ m l. part-at ts a n m (omega arith))
+    ones-ext (λ m. getD (take n (drop a ts)) m 0) (λ m. getD ts (a + m) 0) i (λ m l. part-at ts a n 0 m (omega arith))
 
 -- a part's sum added to the sum before it, wrapped
 pub sums-part : (ts : List ℕ) (a n : ℕ) → (sums ts a % 2 ^ 32 + sums (take n (drop a ts)) n % 2 ^ 32) % 2 ^ 32 ≡ sums ts (a + n) % 2 ^ 32
@@ -157,16 +136,16 @@ groups-none ts xs size =
 pub groups-more : {ts xs : List ℕ} {g sum : ℕ} → Groups ts xs g sum → g < 8 → (ys : List ℕ) (part r k n : ℕ) → n ≡ 8 → k ≡ 8
     → length ys ≡ length (take k (drop (8 * g + 8) (set xs g sum)))
     → ((i : ℕ) → i < 8 → getD ys i 0 ≡ sums (take n (drop (8 * g) ts)) (i + 1) % 2 ^ 32) → part ≡ sums (take n (drop (8 * g) ts)) 8 % 2 ^ 32
-    → r ≡ (sum + part) % 2 ^ 32 → Groups ts (splice (set xs g sum) (8 * g + 8) ys k) (g + 1) r
+    → r ≡ (sum + part) % 2 ^ 32 → Groups ts (splice (8 * g + 8) k (set xs g sum) ys) (g + 1) r
 groups-more {ts} {xs} {g} {sum} G l ys part r k n is eight kept made added e =
     record {
-      size = splice-length zs (8 * g + 8) ys k kept room ∙ length-set xs g sum ∙ G .size;
+      size = splice-length (8 * g + 8) k zs ys room kept ∙ length-set xs g sum ∙ G .size;
       summed = e
           ∙ ap₂ (λ (a b : ℕ). (a + b) % 2 ^ 32) (G .summed) (added ∙ ap (λ (j : ℕ). sums (take j (drop (8 * g) ts)) 8 % 2 ^ 32) is)
           ∙ sums-part ts (8 * g) 8
           ∙ ap (λ (j : ℕ). sums ts j % 2 ^ 32) (omega arith);
       summaries = (λ i h.
-          splice-below zs (8 * g + 8) ys k kept room i (omega arith)
+          splice-below (8 * g + 8) k zs ys room kept 0 i (omega arith)
           ∙ set-more (nodeFrom ts) xs g sum (omega (arith, G .size)) (G .summaries) (G .summed ∙ sym (from-groups ts g l)) i h);
       keys = (λ c h. key c (lt-or c (8 * g)) h);
     }
@@ -177,17 +156,15 @@ groups-more {ts} {xs} {g} {sum} G l ys part r k n is eight kept made added e =
     room : 8 * g + 8 + k ≤ length zs
     room = omega (arith, length-set xs g sum, G .size)
 
-    key : (c : ℕ) → (c < 8 * g) ⊎ (8 * g ≤ c) → c < 8 * (g + 1) → getD (splice zs (8 * g + 8) ys k) (8 + c) 0 ≡ nodeFrom ts (8 + c)
+    key : (c : ℕ) → (c < 8 * g) ⊎ (8 * g ≤ c) → c < 8 * (g + 1) → getD (splice (8 * g + 8) k zs ys) (8 + c) 0 ≡ nodeFrom ts (8 + c)
     key c (inl h) q =
-        splice-below zs (8 * g + 8) ys k kept room (8 + c) (omega arith)
+        splice-below (8 * g + 8) k zs ys room kept 0 (8 + c) (omega arith)
         ∙ getD-set-other xs g (8 + c) sum 0 (λ u. omega arith)
         ∙ G .keys c h
     key c (inr h) q =
         let i : ℕ = c - 8 * g in
-        let a : 8 + c ≡ 8 * g + 8 + i = omega arith in
         let b : 8 + (8 * g + i) ≡ 8 + c = omega arith in
-        ap (λ (x : ℕ). getD (splice zs (8 * g + 8) ys k) x 0) a
-        ∙ splice-in zs (8 * g + 8) ys k kept room i (omega arith)
+        splice-in (8 * g + 8) k zs ys room kept 0 (8 + c) i (omega arith) (omega arith)
         ∙ made i (omega arith)
         ∙ ap (λ (j : ℕ). sums (take j (drop (8 * g) ts)) (i + 1) % 2 ^ 32) is
         ∙ sym (from-group ts g i (omega arith))
@@ -217,26 +194,25 @@ decides-yes b A d e = subst (λ (x : Bool). Decides x A) (not-false b e) d
 children-are : (h : ℕ → ℕ) (ts : List ℕ) (j : ℕ) → length ts ≡ 64 → ((c : ℕ) → c < 64 → getD ts c 0 ≡ h (64 * j + c)) → ts ≡ childrenOf h j
 unfolding childrenOf
 children-are h ts j size each =
-    ext-getD 0 ts (listOf (λ c. h (64 * j + c)) 64) (size ∙ sym (length-listOf (λ c. h (64 * j + c)) 64))
-    (λ c l. each c (omega arith) ∙ sym (getD-listOf (λ c. h (64 * j + c)) 64 c (omega arith)))
+    sym (listOf-is (λ c. h (64 * j + c)) 64 ts size (λ c l. sym (each c l)))
 
 -- a node laid over a part that was lent
 pub node-laid : (ts xs ys : List ℕ) (at j k : ℕ) → k ≡ 72 → at + 72 * j + 72 ≤ length xs → length ys ≡ length (take k (drop (at + 72 * j) xs))
-    → ((i : ℕ) → i < 72 → getD ys i 0 ≡ nodeFrom ts i) → NodeLaid ts at j xs (splice xs (at + 72 * j) ys k)
+    → ((i : ℕ) → i < 72 → getD ys i 0 ≡ nodeFrom ts i) → NodeLaid ts at j xs (splice (at + 72 * j) k xs ys)
 node-laid ts xs ys at j k is room kept made =
     record {
-      inside = (λ i l. splice-in xs (at + 72 * j) ys k kept (omega arith) i (omega arith) ∙ made i l);
-      under = (λ x l. splice-below xs (at + 72 * j) ys k kept (omega arith) x l);
-      over = (λ x l. splice-above xs (at + 72 * j) ys k kept (omega arith) x (omega arith));
+      inside = (λ i l. splice-in (at + 72 * j) k xs ys (omega arith) kept 0 (at + 72 * j + i) i refl (omega arith) ∙ made i l);
+      under = (λ x l. splice-below (at + 72 * j) k xs ys (omega arith) kept 0 x l);
+      over = (λ x l. splice-above (at + 72 * j) k xs ys (omega arith) kept 0 x (omega arith));
     }
 
 -- a node, as a part of the counters, compared with what is laid for these numbers
 pub node-compared : (b : Bool) (ts xs ys : List ℕ) (at j k : ℕ) → k ≡ 72 → ((i : ℕ) → i < 72 → getD ys i 0 ≡ nodeFrom ts i)
     → Decides b ((i : ℕ) → i < 72 → getD (take k (drop (at + 72 * j) xs)) i 0 ≡ getD ys i 0) → Decides b (NodeAt ts at j xs)
 node-compared true ts xs ys at j k is made d =
-    λ i l. sym (part-at xs (at + 72 * j) k i (omega arith)) ∙ d i l ∙ made i l
+    λ i l. sym (part-at xs (at + 72 * j) k 0 i (omega arith)) ∙ d i l ∙ made i l
 node-compared false ts xs ys at j k is made d =
-    λ a. d (λ i l. part-at xs (at + 72 * j) k i (omega arith) ∙ a i l ∙ sym (made i l))
+    λ a. d (λ i l. part-at xs (at + 72 * j) k 0 i (omega arith) ∙ a i l ∙ sym (made i l))
 
 -- no node yet
 pub level-none : (h : ℕ → ℕ) (xs : List ℕ) (at : ℕ) → LevelFrom h xs at 0
@@ -285,7 +261,7 @@ pub record Bounded (f : ℕ → ℕ) (n : ℕ) : Type 0 where
 
 -- the bits of n blocks of words
 pub bounded : (ws : List ℕ) (n : ℕ) → length ws ≡ 8 * n → 0 < n → n ≤ 262144 → Bounded (bitAt ws) n
-bounded ws n e p l = record { small = bitAt-le ws; past = (λ q h. bits-past ws q (omega arith)); some = p; few = l }
+bounded ws n e p l = record { small = bitAt-le ws; past = (λ q h. bitAt-past ws q (omega arith)); some = p; few = l }
 
 -- a node's counters, from its children's ones, are as defined
 pub from-counter : (f : ℕ → ℕ) (n t j i : ℕ) → Bounded f n → i < 72 → nodeFrom (childrenOf (childOnes f t) j) i ≡ counter f t j i
@@ -301,34 +277,6 @@ from-counter f n t j i B h =
         (λ m l.
         getD-listOf (λ c. childOnes f t (64 * j + c)) 64 (fromChild i + m) (omega (arith, from-to i h)) ∙ ap (childOnes f t) (omega arith))
 
--- 512 n bits reach no further than the nodes of a level
-pub nodes-cover : (n t : ℕ) → 512 * n ≤ childBits (suc t) * nodes n t
-nodes-cover n zero = omega (arith, ap₂ (λ (a b : ℕ). a * b) childBits-one (nodes-zero n))
-nodes-cover n (suc t) =
-    let b : ℕ = childBits (suc t) in
-    let up : nodes n t ≤ 64 * nodes n (suc t) = omega (arith, nodes-suc n t) in
-    let e : childBits (suc (suc t)) * nodes n (suc t) ≡ b * (64 * nodes n (suc t)) =
-    ap (λ (x : ℕ). x * nodes n (suc t)) (childBits-suc t ∙ mul-comm 64 b) ∙ mul-assoc b 64 (nodes n (suc t)) in
-    omega (arith, nodes-cover n t, mul-le-mul-left b up, e)
-
--- the ones of a node that fits, by its counters 7 and 71
-pub counter-ones : (f : ℕ → ℕ) (t m : ℕ) → counter f (suc t) m 7 + counter f (suc t) m 71 ≡ childOnes f (suc (suc t)) m
-counter-ones f t m =
-    let a : 64 * m + fromChild 7 ≡ 64 * m = omega (arith, from-summary 7 (lit< tt)) in
-    let b : 64 * m + toChild 7 ≡ 64 * m + fromChild 71 = omega (arith, to-summary 7 (lit< tt), from-key 63) in
-    let e : 64 * m + toChild 71 ≡ 64 * suc m = omega (arith, to-key 63) in
-    omega (
-      arith,
-      counter-prefix f (suc t) m 7 (lit< tt),
-      counter-prefix f (suc t) m 71 (lit< tt),
-      ap (prefix f (suc t)) a,
-      ap (prefix f (suc t)) b,
-      ap (prefix f (suc t)) e,
-      prefix-up f t m,
-      prefix-up f t (suc m),
-      prefix-suc f (suc (suc t)) m,
-    )
-
 -- over n blocks
 module _ (f : ℕ → ℕ) (n : ℕ) (B : Bounded f n) where
   -- a child's ones are below 2 ^ 32
@@ -343,12 +291,9 @@ module _ (f : ℕ → ℕ) (n : ℕ) (B : Bounded f n) where
       go : (m < nodes n (suc t)) ⊎ (nodes n (suc t) ≤ m) → nodeOnes xs (start n (suc t)) (nodes n (suc t)) m ≡ childOnes f (suc (suc t)) m
       go (inl l) =
           node-there xs (start n (suc t)) (nodes n (suc t)) m l
-          ∙ ap₂ (λ (a b : ℕ). (a + b) % 2 ^ 32) (at 7 (lit< tt)) (at 71 (lit< tt))
+          ∙ ap₂ (λ (a b : ℕ). (a + b) % 2 ^ 32) (fit-at f n xs (suc t) fits m 7 l (lit< tt)) (fit-at f n xs (suc t) fits m 71 l (lit< tt))
           ∙ ap (λ (s : ℕ). s % 2 ^ 32) (counter-ones f t m)
           ∙ mod-eq-of-lt (childOnes-lt (suc (suc t)) m)
-        where
-          at : (i : ℕ) → i < 72 → getD xs (start n (suc t) + 72 * m + i) 0 ≡ counter f (suc t) m i
-          at i h = ap (λ (x : ℕ). getD xs x 0) (sym (index-is n (suc t) m i)) ∙ fits m i l h
       go (inr l) =
           node-past xs (start n (suc t)) (nodes n (suc t)) m l
           ∙ sym
@@ -356,73 +301,48 @@ module _ (f : ℕ → ℕ) (n : ℕ) (B : Bounded f n) where
           (omega (arith, nodes-cover n (suc t), mul-le-mul-left (childBits (suc (suc t))) l)))
 
 -- ---- the levels one above the other
--- level t has `count` nodes and starts at `at`
+-- level t, of nodes, has `count` of them and starts at `at`
 pub record Place (n t count at : ℕ) : Type 0 where
   pub low : 1 ≤ t
   pub high : t ≤ height n
-  pub counted : count ≡ nodes n t
-  pub starts : at ≡ start n t
+  pub level : Level n t count at
 
 -- a level is followed by those below it
 place-room : (n t count at : ℕ) → Place n t count at → at + 72 * count ≤ counterCount n
 place-room n zero count at P = absurd (omega (arith, P .low))
-place-room n (suc t) count at P = omega (arith, P .counted, P .starts, start-next n t (P .high))
+place-room n (suc t) count at P = omega (arith, P .level .counted, P .level .starts, start-next n t (P .high))
 
 -- level 1 has at most 4,096 nodes, and the higher ones no more
 place-few : (n t count at : ℕ) → Place n t count at → n ≤ 262144 → count ≤ 4096
-place-few n t count at P few = omega (arith, P .counted, go t (P .low))
+place-few n t count at P few = omega (arith, P .level .counted, go t (P .low))
   where
     go : (s : ℕ) → 1 ≤ s → nodes n s ≤ 4096
     go zero a = absurd (omega arith)
     go (suc zero) a = omega (arith, nodes-suc n 0, nodes-zero n)
     go (suc (suc s)) a = omega (arith, nodes-suc n (suc s), go (suc s) (omega arith))
 
--- level 1 ends where the counters end
-first-ends : (n : ℕ) → start n 1 + 72 * ((n + 63) / 64) ≡ counterCount n
-first-ends n = omega (arith, nodes-suc n 0, nodes-zero n, start-next n 0 (height-pos n), start-zero n)
-
--- so there is room for it
+-- there is room for level 1
 pub first-room : (n : ℕ) → 72 * ((n + 63) / 64) ≤ counterCount n
-first-room n = omega (arith, first-ends n)
+first-room n = level-room (level-blocks n (counterCount n) refl) (height-pos n) .0
 
 -- where the code has it
 place-first : (n size : ℕ) → size ≡ counterCount n → Place n 1 ((n + 63) / 64) (size - 72 * ((n + 63) / 64))
-place-first n size e =
-    record {
-      low = le-refl 1;
-      high = height-pos n;
-      counted = omega (arith, nodes-suc n 0, nodes-zero n);
-      starts = omega (arith, first-ends n);
-    }
-
--- the next level
-module _ (n t count at : ℕ) (P : Place n t count at) (more : t < height n) where
-  -- has so many nodes
-  next-count : (count + 63) / 64 ≡ nodes n (t + 1)
-  next-count = omega (arith, P .counted, nodes-more n t)
-
-  -- and ends where this one starts
-  next-ends : start n (t + 1) + 72 * ((count + 63) / 64) ≡ at
-  next-ends =
-      omega (arith, next-count, P .starts, start-next n t more, ap (start n) (add-one t), ap (nodes n) (add-one t))
-
-  -- as the code has it
-  place-next : Place n (t + 1) ((count + 63) / 64) (at - 72 * ((count + 63) / 64))
-  place-next = record { low = omega arith; high = omega arith; counted = next-count; starts = omega (arith, next-ends) }
+place-first n size e = record { low = le-refl 1; high = height-pos n; level = level-next (level-blocks n size e) (height-pos n) }
 
 -- level t at its place
 module _ (f : ℕ → ℕ) (n : ℕ) (B : Bounded f n) (xs : List ℕ) (t count at : ℕ) (P : Place n t count at) where
   -- a level laid from its children's ones fits
   place-fits : LevelFrom (childOnes f t) xs at count → LevelFits f n xs t
   place-fits laid j i l h =
-      let e : indexOf n t j i ≡ at + 72 * j + i = omega (arith, index-is n t j i, P .starts) in
-      ap (λ (x : ℕ). getD xs x 0) e ∙ laid j (omega (arith, P .counted)) i h ∙ from-counter f n t j i B h
+      let e : indexOf n t j i ≡ at + 72 * j + i = omega (arith, index-is n t j i, P .level .starts) in
+      ap (λ (x : ℕ). getD xs x 0) e ∙ laid j (omega (arith, P .level .counted)) i h ∙ from-counter f n t j i B h
 
   -- and one of counters that fit is so laid
   place-laid : AllFit f n xs → LevelFrom (childOnes f t) xs at count
   place-laid fits j l i h =
-      let e : at + 72 * j + i ≡ indexOf n t j i = omega (arith, index-is n t j i, P .starts) in
-      ap (λ (x : ℕ). getD xs x 0) e ∙ fits t j i (P .low) (P .high) (omega (arith, P .counted)) h ∙ sym (from-counter f n t j i B h)
+      ap (λ (x : ℕ). getD xs (x + 72 * j + i) 0) (P .level .starts)
+      ∙ fit-at f n xs t (λ k c. fits t k c (P .low) (P .high)) j i (omega (arith, P .level .counted)) h
+      ∙ sym (from-counter f n t j i B h)
 
 -- the levels 1 to t fit; level t has `count` nodes and starts at `at`
 pub record Upto (f : ℕ → ℕ) (n : ℕ) (xs : List ℕ) (t count at : ℕ) : Type 0 where
@@ -471,7 +391,7 @@ module _ {f : ℕ → ℕ} {n : ℕ} {xs : List ℕ} {t count at : ℕ} (U : Upt
 
   -- there is at least one node
   pub upto-long : 72 ≤ length xs
-  upto-long = omega (arith, upto-room, U .place .counted, nodes-pos n t (U .bits .some))
+  upto-long = omega (arith, U .size, root-there n (U .bits .some) (U .bits .few))
 
   -- the nodes of level t hold the ones of the children of the next level
   upto-children : (m : ℕ) → nodeOnes xs at count m ≡ childOnes f (t + 1) m
@@ -480,7 +400,7 @@ module _ {f : ℕ → ℕ} {n : ℕ} {xs : List ℕ} {t count at : ℕ} (U : Upt
       go : (s : ℕ) → Upto f n xs s count at → nodeOnes xs at count m ≡ childOnes f (s + 1) m
       go zero W = absurd (omega (arith, W .place .low))
       go (suc s) W =
-          ap₂ (λ (a c : ℕ). nodeOnes xs a c m) (W .place .starts) (W .place .counted)
+          ap₂ (λ (a c : ℕ). nodeOnes xs a c m) (W .place .level .starts) (W .place .level .counted)
           ∙ level-ones f n (W .bits) xs s m (W .right (suc s) (W .place .low) (le-refl (suc s)))
           ∙ ap (λ (k : ℕ). childOnes f k m) (sym (add-one (suc s)))
 
@@ -492,11 +412,11 @@ module _ {f : ℕ → ℕ} {n : ℕ} {xs : List ℕ} {t count at : ℕ} (U : Upt
 
     -- there is room for it before level t
     pub next-room : 72 * over ≤ at
-    next-room = omega (arith, next-ends n t count at (U .place) more)
+    next-room = level-room (U .place .level) more .0
 
     -- its place
     next : Place n (t + 1) over (at - 72 * over)
-    next = place-next n t count at (U .place) more
+    next = record { low = omega arith; high = omega arith; level = level-next (U .place .level) more }
 
     -- it is laid, and what stands from level t on is kept
     pub upto-more : (ys : List ℕ) → length ys ≡ length xs → LevelFrom (nodeOnes xs at count) ys (at - 72 * over) over
@@ -510,7 +430,7 @@ module _ {f : ℕ → ℕ} {n : ℕ} {xs : List ℕ} {t count at : ℕ} (U : Upt
             (place-fits f n (U .bits) ys (t + 1) over (at - 72 * over) next
             (level-ext (nodeOnes xs at count) (childOnes f (t + 1)) ys (at - 72 * over) over upto-children laid))
         level s a (inr l) b =
-            let after : at ≤ start n s = omega (arith, U .place .starts, total-mono n l) in
+            let after : at ≤ start n s = omega (arith, U .place .level .starts, total-mono n l) in
             λ j i m h. kept (indexOf n s j i) (omega (arith, index-is n s j i)) ∙ U .right s a l j i m h
 
     -- it is compared
@@ -535,26 +455,4 @@ module _ {f : ℕ → ℕ} {n : ℕ} {xs : List ℕ} {t count at : ℕ} (U : Upt
 
     -- the root's ones are those of all bits
     pub upto-ones : getD xs 7 0 + getD xs 71 0 ≡ ones f (512 * n)
-    upto-ones = go t U top
-      where
-        go : (s : ℕ) → Upto f n xs s count at → height n ≤ s → getD xs 7 0 + getD xs 71 0 ≡ ones f (512 * n)
-        go zero W h = absurd (omega (arith, W .place .low))
-        go (suc s) W h =
-            let e : suc s ≡ height n = omega (arith, W .place .high) in
-            let one : nodes n (suc s) ≡ 1 = ap (nodes n) e ∙ nodes-root n (W .bits .some) (W .bits .few) in
-            let first : start n (suc s) ≡ 0 = omega (arith, ap (total n) e) in
-            let root : (i : ℕ) → i < 72 → getD xs i 0 ≡ counter f (suc s) 0 i =
-            λ i l.
-            ap (λ (x : ℕ). getD xs x 0) (omega (arith, index-is n (suc s) 0 i, first))
-            ∙ W .right (suc s) (W .place .low) (le-refl (suc s)) 0 i (omega (arith, one)) l in
-            let cover : 512 * n ≤ childBits (suc (suc s)) * 1 =
-            omega (arith, nodes-cover n (suc s), ap (λ (k : ℕ). childBits (suc (suc s)) * k) one) in
-            omega (
-              arith,
-              root 7 (lit< tt),
-              root 71 (lit< tt),
-              counter-ones f s 0,
-              prefix-suc f (suc (suc s)) 0,
-              prefix-zero f (suc (suc s)),
-              ones-flat f (512 * n) (childBits (suc (suc s)) * 1) (W .bits .past) cover,
-            )
+    upto-ones = root-ones f n xs (U .bits .some) (U .bits .few) upto-all (U .bits .past)

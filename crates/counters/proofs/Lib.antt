@@ -1,5 +1,6 @@
 pub mod TreeLaws
 pub mod FlipLaws
+pub mod FitLaws
 pub mod LaidLaws
 pub mod SpliceLaws
 pub mod RaiseLaws

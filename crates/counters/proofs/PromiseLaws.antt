@@ -1,35 +1,32 @@
 -- The promise of a call, case by case: refused by its table, or passed and done. Assumes nothing.
-use mathlib.Core.Path.{_≡_, refl, sym, ap, ap₂, _∙_, subst, subst₂}
-use mathlib.Core.Bool.{Bool, true, false, cond}
+use mathlib.Core.Path.{_≡_, refl, sym, ap, ap₂, _∙_, subst}
+use mathlib.Core.Bool.{cond}
 use mathlib.Core.Logic.{_⊎_, inl, inr}
 use mathlib.Core.List.{List, [], _∷_, _++_}
-use mathlib.Core.Option.{Option, some, none}
-use Prim.Native.Nat.{ℕ, _+_, _-_, _*_, _/_, _%_, _^_, _≤_, _<_}
+use mathlib.Core.Option.{some, none}
+use Prim.Native.Nat.{ℕ, _+_, _-_, _/_, _%_, _^_, _≤_, _<_}
 use native.Mathlib.Omega.{arith}
-use lib.Dec.{leb, ltb, eqb}
+use lib.Dec.{eqb}
 use lib.ListN.{length, getD, set, take}
-use borrow.Author.Tests.{eqb-true, eq-eqb, ne-eqb, leb-false, ltb-false}
+use borrow.Author.Tests.{eqb-true, eq-eqb, ne-eqb}
 use Rattle.words.specs.Bits.{bitAt, ones}
-use Rattle.words.specs.Strip.{cell, stripOf, PastZero, rank, rankOf, select, selectOf}
-use Rattle.words.specs.Words.{placeIn}
-use Rattle.words.specs.Refusals.{numberOf, Line, _⇒_, judge, verdictOf, unless, Told, value, refused, found}
+use Rattle.words.specs.Strip.{cell, rank}
+use Rattle.words.specs.Refusals.{numberOf, Line, judge, verdictOf}
 use Rattle.words.specs.Handles.{handle}
-use Rattle.words.specs.Calls.{valueLine, belowLine, withinLine}
 use Rattle.words.specs.Working.{RangePut}
 use Rattle.words.specs.declared.handle.Handle.{Handle}
 use Rattle.words.specs.declared.refusal.Refusal.{Refusal}
 use Rattle.words.specs.declared.refusal.Verdict.{Verdict}
-use Rattle.words.specs.declared.refusal.Verdict.the-variants.{Pass, Refuse}
+use Rattle.words.specs.declared.refusal.Verdict.the-variants.{Refuse}
 use Rattle.words.proofs.Sums.{lt-or}
-use Rattle.words.proofs.WordLaws.{bitAt-le}
-use Rattle.words.proofs.CheckLaws.{judged-refuse, passes, passed-both, Checked, checked, unless-passed}
-use Rattle.words.proofs.StripLaws.{strip-cell, strip-length, strip-rank, strip-select}
-use Rattle.words.proofs.SearchLaws.{select-exists, select-place, select-none}
-use Rattle.counters.specs.Tree.{blocksOf, height, counterCount, changed}
+use Rattle.words.proofs.WordLaws.{bitAt-le, bitAt-past}
+use Rattle.words.proofs.CheckLaws.{not-both, judged-refuse, Passes, passes, passed-both, checked}
+use Rattle.words.proofs.StripLaws.{strip-cell}
+use Rattle.counters.specs.Tree.{blocksOf, counterCount, changed}
 use Rattle.counters.specs.Record.{Fits}
 use Rattle.counters.specs.Working.{AllFit, PathRaised}
-use Rattle.counters.specs.Promises.{MovedTold, done, Outcome, outcome, stays, Promise, Near, near, AtMost, Below}
-use Rattle.counters.specs.Calls.{checks, held, afresh, pushTable, Pushed, flipTable, Flipped, filled, fillTable, fillOutcome, truncateTable, truncateOutcome, Ranked, Selected}
+use Rattle.counters.specs.Promises.{done, outcome, Promise, Near, near}
+use Rattle.counters.specs.Calls.{checks, held, afresh, pushTable, Pushed, flipTable, Flipped, filled}
 use Rattle.counters.proofs.FlipLaws.{changed-le}
 use Rattle.counters.proofs.ChangeLaws as C
 
@@ -40,14 +37,14 @@ promise-refused t refuse late Fit Loose v r e d =
     let j : judge t ≡ some (numberOf r) = judged-refuse t v r e d in
     record {
       early = (λ n h. let s : numberOf r ≡ n = cc in ap refuse s);
-      exact = (λ h f. let z : _≡_ {A = ℕ} 0 1 = cc in absurd (omega arith));
-      loose = (λ h. let z : _≡_ {A = ℕ} 0 1 = cc in absurd (omega arith));
+      exact = (λ h f. not-both j h);
+      loose = (λ h. not-both j h);
     }
 
 pub promise-passed : {A : Type 0} (t : List Line) (refuse : ℕ → A) (late : A) (Fit : Type 0) (Loose : A → Type 0) (o : A)
     → judge t ≡ none → (Fit → o ≡ late) → Loose o → Promise A (judge t) refuse late Fit Loose o
 promise-passed t refuse late Fit Loose o j exact loose =
-    record { early = (λ n h. let z : _≡_ {A = ℕ} 0 1 = cc in absurd (omega arith)); exact = (λ h f. exact f); loose = (λ h. loose) }
+    record { early = (λ n h. not-both h j); exact = (λ h f. exact f); loose = (λ h. loose) }
 
 -- ---- what the checks leave
 pub record Sizes (h : Handle) (ws cs : List ℕ) : Type 0 where
@@ -67,9 +64,13 @@ sizes h ws cs p =
 pub sizes-of : (h : Handle) (ws cs : List ℕ) (ls : List Line) → judge (checks h (length ws) (length cs) ++ ls) ≡ none → Sizes h ws cs
 sizes-of h ws cs ls p = sizes h ws cs (passed-both (checks h (length ws) (length cs)) ls p .0)
 
+-- and its own lines
+pub lines-of : (h : Handle) (ws cs : List ℕ) (ls : List Line) → judge (checks h (length ws) (length cs) ++ ls) ≡ none → Passes ls
+lines-of h ws cs ls p = passes ls (passed-both (checks h (length ws) (length cs)) ls p .1)
+
 -- no bit stands past the most capacity
 pub high-zero : (h : Handle) (ws cs vs : List ℕ) → Sizes h ws cs → length vs ≡ length ws → (q : ℕ) → 134217728 ≤ q → bitAt vs q ≡ 0
-high-zero h ws cs vs z l q a = C.bitAt-past vs q (omega (arith, z .words, z .most))
+high-zero h ws cs vs z l q a = bitAt-past vs q (omega (arith, z .words, z .most))
 
 -- ---- turn
 module _ (h : Handle) (ws vs cs ds : List ℕ) (i number d : ℕ) (z : Sizes h ws cs) (below : i < h .length)

@@ -1,87 +1,22 @@
--- A lent part given back, and the counters that count a stroke moved: eight lanes, one node, level by level. Assumes nothing.
+-- The counters that count a stroke moved: eight lanes, one node, level by level. Assumes nothing.
 use mathlib.Core.Path.{_≡_, refl, sym, ap, ap₂, _∙_}
 use mathlib.Core.Bool.{Bool, true, false, cond, _&&_}
-use mathlib.Core.List.{List, _++_}
+use mathlib.Core.List.{List}
 use mathlib.Core.Logic.{_⊎_, inl, inr}
 use Prim.Native.Nat.{ℕ, _+_, _-_, _*_, _/_, _%_, _^_, _≤_, _<_}
 use native.Mathlib.Numerals.{add-one}
 use native.Mathlib.Omega.{arith}
 use lib.Dec.{leb, ltb}
-use lib.ListN.{length, getD, take, drop, set, length-append, length-drop, length-set, List·getD-append}
-use lib.Seq.{length-take-le, getD-take, getD-drop, getD-append-add, getD-set-same, getD-set-other}
-use borrow.Author.Tests.{le-leb, lt-leb, lt-ltb, le-ltb}
+use lib.ListN.{length, getD, take, drop, set, length-set}
+use lib.Seq.{getD-set-other}
+use borrow.Author.Tests.{le-leb, lt-leb}
 use Rattle.words.specs.Bits.{ones}
 use Rattle.words.proofs.Sums.{lt-or, ones-zero, ones-more}
-use Rattle.words.proofs.BoolLaws.{and-intro}
 use Rattle.counters.specs.Tree.{nodes, height, fromChild, toChild, counterCount, indexOf, childOf, slot, counts, changed}
 use Rattle.counters.specs.Working.{movedBy, countsChild, PathRaised}
-use Rattle.counters.proofs.TreeLaws.{nodes-zero, nodes-more, nodes-le, childOf-one, childOf-suc, from-summary, to-summary, from-key, to-key, from-to, start, index-is, start-zero, start-next, total-mono, height-le}
-use Rattle.counters.proofs.FlipLaws.{child-lt, counts-before, counts-past}
-
--- ---- a lent part
--- the whole, when the k elements from a on were lent and have come back as ws
-abbrev pub splice : {A : Type 0} → ℕ → ℕ → List A → List A → List A
-splice a k xs ws = take a xs ++ (ws ++ drop k (drop a xs))
-
-module _ {A : Type 0} (a k : ℕ) (xs : List A) (fits : a + k ≤ length xs) where
-  -- the part is as long as asked
-  pub part-length : length (take k (drop a xs)) ≡ k
-  part-length = length-take-le k (drop a xs) (simp length-drop (omega arith))
-
-  -- and has the whole's elements
-  pub part-at : (z : A) (x : ℕ) → x < k → getD (take k (drop a xs)) x z ≡ getD xs (a + x) z
-  part-at z x h = getD-take k (drop a xs) x z h ∙ getD-drop a xs x z
-
--- `kept`, that what came back is as long as what was lent, is a call's `.kept`
-module _ {A : Type 0} (a k : ℕ) (xs ws : List A) (fits : a + k ≤ length xs) (kept : length ws ≡ length (take k (drop a xs))) where
-  -- as many elements come back
-  back-length : length ws ≡ k
-  back-length = kept ∙ part-length a k xs fits
-
-  -- as many stand before them
-  head-length : length (take a xs) ≡ a
-  head-length = length-take-le a xs (omega arith)
-
-  -- the whole keeps its length
-  pub splice-length : length (splice a k xs ws) ≡ length xs
-  splice-length = simp (length-append, length-drop) (omega (arith, head-length, back-length))
-
-  -- below the part nothing has changed
-  pub splice-below : (z : A) (x : ℕ) → x < a → getD (splice a k xs ws) x z ≡ getD xs x z
-  splice-below z x h =
-      List·getD-append (take a xs) (ws ++ drop k (drop a xs)) z x (omega (arith, head-length)) ∙ getD-take a xs x z h
-
-  -- past the head stand what came back and the rest
-  splice-past : (z : A) (x : ℕ) → a ≤ x → getD (splice a k xs ws) x z ≡ getD (ws ++ drop k (drop a xs)) (x - a) z
-  splice-past z x h =
-      let e : x ≡ length (take a xs) + (x - a) = omega (arith, head-length) in
-      ap (λ (y : ℕ). getD (splice a k xs ws) y z) e ∙ getD-append-add (take a xs) (ws ++ drop k (drop a xs)) (x - a) z
-
-  -- inside it stands what came back
-  pub splice-in : (z : A) (x i : ℕ) → x ≡ a + i → i < k → getD (splice a k xs ws) x z ≡ getD ws i z
-  splice-in z x i e h =
-      let f : x - a ≡ i = omega arith in
-      splice-past z x (omega arith)
-      ∙ ap (λ (y : ℕ). getD (ws ++ drop k (drop a xs)) y z) f
-      ∙ List·getD-append ws (drop k (drop a xs)) z i (omega (arith, back-length))
-
-  -- from its end on nothing has changed
-  pub splice-above : (z : A) (x : ℕ) → a + k ≤ x → getD (splice a k xs ws) x z ≡ getD xs x z
-  splice-above z x h =
-      let e : x - a ≡ length ws + (x - a - k) = omega (arith, back-length) in
-      let f : a + (k + (x - a - k)) ≡ x = omega arith in
-      splice-past z x (omega arith)
-      ∙ ap (λ (y : ℕ). getD (ws ++ drop k (drop a xs)) y z) e
-      ∙ getD-append-add ws (drop k (drop a xs)) (x - a - k) z
-      ∙ getD-drop k (drop a xs) (x - a - k) z
-      ∙ getD-drop a xs (k + (x - a - k)) z
-      ∙ ap (λ (y : ℕ). getD xs y z) f
-
-  -- where each element of the part has become f of it, so has each of the whole inside
-  pub splice-each : (f : ℕ → A → A) (z : A) → ((i : ℕ) → i < k → getD ws i z ≡ f i (getD (take k (drop a xs)) i z))
-      → (x i : ℕ) → x ≡ a + i → i < k → getD (splice a k xs ws) x z ≡ f i (getD xs x z)
-  splice-each f z each x i e h =
-      splice-in z x i e h ∙ each i h ∙ ap (f i) (part-at a k xs fits z i h ∙ ap (λ (y : ℕ). getD xs y z) (sym e))
+use Rattle.counters.proofs.TreeLaws.{nodes-le, childOf-one, childOf-suc, from-summary, to-summary, from-key, to-key, from-to, start, index-is, Level, level-blocks, level-next, level-room, total-mono, height-le}
+use Rattle.counters.proofs.FlipLaws.{between-in, between-before, between-past, child-lt, counts-before, counts-past}
+use Rattle.counters.proofs.SpliceLaws.{set-more, splice, splice-length, splice-below, splice-above, splice-each}
 
 -- ---- eight lanes
 -- a wrapping sum with d, or with 0
@@ -109,7 +44,7 @@ pub lanes-more : {test : ℕ → Bool} {d : ℕ} {xs : List ℕ} {i : ℕ} {ys :
 lanes-more {test} {d} {xs} {i} {ys} l h small e v is sum =
     record {
       long = length-set ys i v ∙ l .long;
-      moved = λ k q. go k q (lt-or k i);
+      moved = set-more (λ k. movedBy (test k) d (getD xs k 0)) ys i v h (l .moved) here;
       rest = λ k q. getD-set-other ys i k v 0 (λ w. omega arith) ∙ l .rest k (omega arith);
     }
   where
@@ -120,27 +55,7 @@ lanes-more {test} {d} {xs} {i} {ys} l h small e v is sum =
         ∙ moved-sum (test i) d (getD ys i 0) small
         ∙ ap (movedBy (test i) d) (l .rest i (omega arith))
 
-    go : (k : ℕ) → k < i + 1 → (k < i) ⊎ (i ≤ k) → getD (set ys i v) k 0 ≡ movedBy (test k) d (getD xs k 0)
-    go k q (inl o) = getD-set-other ys i k v 0 (λ w. omega arith) ∙ l .moved k o
-    go k q (inr o) = let w : k ≡ i = omega arith in rw w (getD-set-same ys i v 0 h ∙ here)
-
 -- ---- one node
--- a number is between two ends
-between-in : (a b c : ℕ) → a ≤ c → c < b → (leb a c && ltb c b) ≡ true
-between-in a b c h l = and-intro (le-leb a c h) (lt-ltb c b l)
-
--- or before the lower
-between-before : (a b c : ℕ) → c < a → (leb a c && ltb c b) ≡ false
-between-before a b c h = rw (lt-leb a c h)
-
--- or past the upper
-between-past : (a b c : ℕ) → b ≤ c → (leb a c && ltb c b) ≡ false
-between-past a b c h = go (leb a c) (le-ltb c b h)
-  where
-    go : (t : Bool) {u : Bool} → u ≡ false → (t && u) ≡ false
-    go true e = e
-    go false e = refl
-
 -- ends and number moved alike
 between-shift : (k a b c x : ℕ) → x ≡ k + c → (leb (k + a) x && ltb x (k + b)) ≡ (leb a c && ltb c b)
 between-shift k a b c x e = go (lt-or c a) (lt-or c b)
@@ -238,9 +153,8 @@ share p s = 15 - slot (s + 1) p % 8 - slot (s + 1) p / 8
 
 -- after t levels from the lowest: ys is xs with the counters of the levels 1 to t moved that count stroke p, and `number` is how many
 pub record Climb (n p d : ℕ) (xs : List ℕ) (t : ℕ) (ys : List ℕ) (count child end number : ℕ) : Type 0 where
-  pub nodes-are : count ≡ nodes n t
+  pub level : Level n t count end
   pub child-is : child ≡ childOf (t + 1) p
-  pub end-is : end ≡ start n t
   pub number-is : number ≡ ones (share p) t
   pub number-le : number ≤ 15 * t
   pub long : length ys ≡ length xs
@@ -252,9 +166,8 @@ pub record Climb (n p d : ℕ) (xs : List ℕ) (t : ℕ) (ys : List ℕ) (count 
 pub climb-none : (n p d : ℕ) (xs : List ℕ) → length xs ≡ counterCount n → Climb n p d xs 0 xs n (p / 512) (length xs) 0
 climb-none n p d xs e =
     record {
-      nodes-are = sym (nodes-zero n);
+      level = level-blocks n (length xs) e;
       child-is = sym (childOf-one p);
-      end-is = e ∙ sym (start-zero n);
       number-is = sym (ones-zero (share p));
       number-le = omega arith;
       long = refl;
@@ -276,16 +189,15 @@ pub record Next (n t count child end size : ℕ) : Type 0 where
 pub climb-next : {n p d : ℕ} {xs : List ℕ} {t : ℕ} {ys : List ℕ} {count child end number : ℕ} → Climb n p d xs t ys count child end number
     → t < height n → 0 < n → n ≤ 262144 → p < 512 * n → length xs ≡ counterCount n → Next n t count child end (length ys)
 climb-next {n} {p} {d} {xs} {t} {ys} {count} {child} {end} {number} k l pos most in-all size =
-    let more : (nodes n t + 63) / 64 ≡ nodes n (t + 1) = sym (nodes-more n t) in
-    let next : start n (t + 1) + 72 * nodes n (t + 1) ≡ start n t = rw (← add-one t) at (start-next n t l) in
+    let next = level-next (k .level) l in
     record {
       few = l;
       levels-le = height-le n;
-      count-le = omega (arith, k .nodes-are, nodes-le n t pos);
-      level-fits = omega (arith, k .nodes-are, k .end-is);
-      node-there = omega (arith, k .nodes-are, k .child-is, child-lt n (t + 1) p (omega arith) in-all);
-      end-le = omega (arith, k .end-is, k .long);
-      node-at = omega (arith, k .nodes-are, k .end-is);
+      count-le = omega (arith, k .level .counted, nodes-le n t pos);
+      level-fits = level-room (k .level) l .0;
+      node-there = omega (arith, next .counted, k .child-is, child-lt n (t + 1) p (omega arith) in-all);
+      end-le = omega (arith, level-room (k .level) l, k .long);
+      node-at = next .starts;
     }
 
 -- the stroke's child one level up, as the code writes it
@@ -300,9 +212,8 @@ pub climb-more : {n p d : ℕ} {xs : List ℕ} {t : ℕ} {ys : List ℕ} {count 
     → Climb n p d xs (t + 1) (splice a m ys ws) ((count + 63) / 64) (child / 64) (end - 72 * ((count + 63) / 64)) (number + (15 - child % 64 % 8 - child % 64 / 8))
 climb-more {n} {p} {d} {xs} {t} {ys} {count} {child} {end} {number} k next a m ws begin long kept each =
     record {
-      nodes-are = omega (arith, k .nodes-are, nodes-more n t);
+      level = above;
       child-is = omega (arith, k .child-is, childOf-more t p);
-      end-is = next .node-at;
       number-is = ap₂ (λ (x y : ℕ). x + (15 - y % 64 % 8 - y % 64 / 8)) (k .number-is) (k .child-is) ∙ sym (ones-more (share p) t);
       number-le = omega (arith, k .number-le);
       long = splice-length a m ys ws fit kept ∙ k .long;
@@ -310,12 +221,15 @@ climb-more {n} {p} {d} {xs} {t} {ys} {count} {child} {end} {number} k next a m w
       rest = λ x l. splice-below a m ys ws fit kept 0 x (omega arith) ∙ k .rest x (omega arith);
     }
   where
+    above : Level n (t + 1) ((count + 63) / 64) (end - 72 * ((count + 63) / 64))
+    above = level-next (k .level) (next .few)
+
     fit : a + m ≤ length ys
     fit = omega arith
 
     -- until now a counter of the new level is as it was
     old : (j i : ℕ) → j < nodes n (t + 1) → i < 72 → getD ys (indexOf n (t + 1) j i) 0 ≡ getD xs (indexOf n (t + 1) j i) 0
-    old j i l h = k .rest (indexOf n (t + 1) j i) (omega (arith, index-is n (t + 1) j i, nodes-more n t))
+    old j i l h = k .rest (indexOf n (t + 1) j i) (omega (arith, index-is n (t + 1) j i, k .level .starts, above .counted))
 
     -- the counters of the new level: before the node, past it, and its own
     here : (j i : ℕ) → j < nodes n (t + 1) → i < 72 → (j < child / 64) ⊎ (child / 64 ≤ j) → (child / 64 < j) ⊎ (j ≤ child / 64)

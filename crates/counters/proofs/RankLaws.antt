@@ -1,16 +1,17 @@
 -- The laws of counting before a position: in a node, up the levels, and in a block. Assumes nothing.
-use mathlib.Core.Path.{_≡_, sym, ap, ap₂, _∙_}
+use mathlib.Core.Path.{_≡_, ap, _∙_}
 use mathlib.Core.List.{List}
 use Prim.Native.Nat.{ℕ, suc, _+_, _-_, _*_, _/_, _%_, _≤_, _<_}
 use native.Mathlib.Numerals.{add-one}
 use native.Mathlib.Omega.{arith}
 use lib.ListN.{getD, take, drop}
-use lib.Seq.{getD-take, getD-drop}
-use Rattle.words.specs.Bits.{bit, bitAt, ones}
+use Rattle.words.specs.Bits.{bitAt, ones}
 use Rattle.words.proofs.Sums.{part-ones}
-use Rattle.counters.specs.Tree.{nodes, height, fromChild, toChild, counterCount, indexOf}
+use Rattle.words.proofs.WordLaws.{block-bit}
+use Rattle.counters.specs.Tree.{nodes, height, fromChild, toChild, counterCount}
 use Rattle.counters.specs.Working.{Node, AllFit}
-use Rattle.counters.proofs.TreeLaws.{nodes-zero, nodes-suc, nodes-more, nodes-root, childBits-one, prefix, prefix-zero, prefix-up, from-summary, to-summary, from-key, to-key, counter-prefix, start, index-is, start-next, start-zero}
+use Rattle.counters.proofs.TreeLaws.{nodes-root, childBits-one, prefix, prefix-zero, prefix-up, from-summary, to-summary, from-key, to-key, Level, level-blocks, level-next, level-room}
+use Rattle.counters.proofs.FitLaws.{node-fits}
 
 -- ---- in a node: the ones in its first c children
 module _ (B : ℕ → ℕ) (j : ℕ) (xs : List ℕ) (node : Node B j xs) where
@@ -43,20 +44,11 @@ module _ (B : ℕ → ℕ) (j : ℕ) (xs : List ℕ) (node : Node B j xs) where
       omega (arith, summary-is (c / 8) (omega arith), key-is (c - 1) (omega arith), ap (λ (i : ℕ). getD xs i 0) a, ap B b, ap B d)
 
 -- ---- up the levels
--- a node of counters as defined, as a part of them
-pub node-fits : (f : ℕ → ℕ) (n t j a w : ℕ) (xs : List ℕ) → AllFit f n xs → 1 ≤ t → t ≤ height n → j < nodes n t → a ≡ start n t + 72 * j → w ≡ 72
-    → Node (prefix f t) j (take w (drop a xs))
-node-fits f n t j a w xs fit lo hi there from wide i h =
-    let e : a + i ≡ indexOf n t j i = omega (arith, index-is n t j i) in
-    let x : getD (take w (drop a xs)) i 0 ≡ getD xs (a + i) 0 = getD-take w (drop a xs) i 0 (omega arith) ∙ getD-drop a xs i 0 in
-    omega (arith, x, ap (λ (y : ℕ). getD xs y 0) e, fit t j i lo hi there h, counter-prefix f t j i h)
-
--- After t levels: the nodes and the start of level t, a child of level t + 1, and the sum so far. Where the counters are as defined, the sum with the
--- ones in the children before it is the ones before the block.
+-- After t levels: level t, a child of level t + 1, and the sum so far. Where the counters are as defined, the sum with the ones in the children
+-- before it is the ones before the block.
 pub record Climbed (n block : ℕ) (xs : List ℕ) (t count child end sum : ℕ) : Type 0 where
-  pub level : count ≡ nodes n t
+  pub level : Level n t count end
   pub there : child < count
-  pub starts : end ≡ start n t
   pub small : sum ≤ t * 8589934590
   pub counted : (f : ℕ → ℕ) → AllFit f n xs → sum + prefix f (suc t) child ≡ ones f (512 * block)
 
@@ -64,9 +56,8 @@ pub record Climbed (n block : ℕ) (xs : List ℕ) (t count child end sum : ℕ)
 pub climbed-none : (n block : ℕ) (xs : List ℕ) (end : ℕ) → block < n → end ≡ counterCount n → Climbed n block xs 0 n block end 0
 climbed-none n block xs end l e =
     record {
-      level = sym (nodes-zero n);
+      level = level-blocks n end e;
       there = l;
-      starts = e ∙ sym (start-zero n);
       small = omega arith;
       counted = (λ f fit. omega (arith, ap (λ (b : ℕ). ones f (b * block)) childBits-one));
     }
@@ -74,7 +65,7 @@ climbed-none n block xs end l e =
 module _ (n block : ℕ) (xs : List ℕ) (t count child end sum : ℕ) (now : Climbed n block xs t count child end sum) (l : t < height n) where
   -- the next level ends where this one starts, and has the node of the child
   pub climbed-room : (72 * ((count + 63) / 64) ≤ end) × (child / 64 < (count + 63) / 64) × (end ≤ counterCount n)
-  climbed-room = omega (arith, now .level, now .there, now .starts, nodes-suc n t, start-next n t l)
+  climbed-room = omega (arith, now .there, level-room (now .level) l)
 
   -- a level more, by what the node's counters give
   pub climbed-more : (r a w : ℕ) → r ≤ 8589934590 → a ≡ end - 72 * ((count + 63) / 64) + 72 * (child / 64) → w ≡ 72
@@ -82,26 +73,19 @@ module _ (n block : ℕ) (xs : List ℕ) (t count child end sum : ℕ) (now : Cl
       → Climbed n block xs (t + 1) ((count + 63) / 64) (child / 64) (end - 72 * ((count + 63) / 64)) (sum + r)
   climbed-more r a w small at wide gives =
       record {
-        level = level;
+        level = level-next (now .level) l;
         there = climbed-room .1;
-        starts = starts;
         small = omega (arith, now .small);
         counted = counted;
       }
     where
-      level : (count + 63) / 64 ≡ nodes n (t + 1)
-      level = ap (λ (m : ℕ). (m + 63) / 64) (now .level) ∙ sym (nodes-more n t)
-
-      starts : end - 72 * ((count + 63) / 64) ≡ start n (t + 1)
-      starts = omega (arith, level, now .starts, start-next n t l, ap (nodes n) (add-one t), ap (start n) (add-one t))
-
       counted : (f : ℕ → ℕ) → AllFit f n xs → sum + r + prefix f (suc (t + 1)) (child / 64) ≡ ones f (512 * block)
       counted f fit =
           let j : ℕ = child / 64 in
           let e : 64 * j + child % 64 ≡ child = omega arith in
-          let there : j < nodes n (suc t) = omega (arith, climbed-room .1, now .level, nodes-suc n t) in
-          let from : a ≡ start n (suc t) + 72 * j = omega (arith, at, starts, ap (start n) (add-one t)) in
-          let step = gives (prefix f (suc t)) j (node-fits f n (suc t) j a w xs fit (omega arith) l there from wide) in
+          let next : Level n (suc t) ((count + 63) / 64) (end - 72 * ((count + 63) / 64)) = rw (← add-one t) (level-next (now .level) l) in
+          let step = gives (prefix f (suc t)) j
+          (node-fits f n (suc t) j a w xs (λ i c. fit (suc t) i c (omega arith) l) (omega (arith, climbed-room .1, next .counted)) (omega (arith, at, next .starts)) wide) in
           let up = ap (λ (k : ℕ). prefix f (suc k) j) (add-one t) ∙ prefix-up f t j in
           omega (arith, now .counted f fit, step, ap (prefix f (suc t)) e, up)
 
@@ -109,19 +93,12 @@ module _ (n block : ℕ) (xs : List ℕ) (t count child end sum : ℕ) (now : Cl
 pub climbed-done : (n block : ℕ) (xs : List ℕ) (t count child end sum : ℕ) → Climbed n block xs t count child end sum → t ≡ height n → 0 < n → n ≤ 262144
     → (f : ℕ → ℕ) → AllFit f n xs → sum ≡ ones f (512 * block)
 climbed-done n block xs t count child end sum now top lo hi f fit =
-    let one : count ≡ 1 = now .level ∙ ap (nodes n) top ∙ nodes-root n lo hi in
+    let one : count ≡ 1 = now .level .counted ∙ ap (nodes n) top ∙ nodes-root n lo hi in
     let z : child ≡ 0 = omega (arith, now .there) in
     omega (arith, now .counted f fit, ap (prefix f (suc t)) z, prefix-zero f (suc t))
 
 -- ---- in a block
 -- the ones before position m of block b
 pub ones-in-block : (ws : List ℕ) (b m w : ℕ) → w ≡ 8 → m ≤ 512 → ones (bitAt ws) (512 * b + m) ≡ ones (bitAt ws) (512 * b) + ones (bitAt (take w (drop (8 * b) ws))) m
-ones-in-block ws b m w eight l = part-ones (bitAt ws) (bitAt (take w (drop (8 * b) ws))) (512 * b) 512 m part l
-  where
-    part : (p : ℕ) → p < 512 → bitAt (take w (drop (8 * b) ws)) p ≡ bitAt ws (512 * b + p)
-    part p h =
-        let q : 8 * b + p / 64 ≡ (512 * b + p) / 64 = omega arith in
-        let r : p % 64 ≡ (512 * b + p) % 64 = omega arith in
-        let word : getD (take w (drop (8 * b) ws)) (p / 64) 0 ≡ getD ws ((512 * b + p) / 64) 0 =
-        getD-take w (drop (8 * b) ws) (p / 64) 0 (omega arith) ∙ getD-drop (8 * b) ws (p / 64) 0 ∙ ap (λ (k : ℕ). getD ws k 0) q in
-        ap₂ (λ (x k : ℕ). bit x k) word r
+ones-in-block ws b m w eight l =
+    part-ones (bitAt ws) (bitAt (take w (drop (8 * b) ws))) (512 * b) 512 m (λ p h. block-bit ws b w p eight h) l

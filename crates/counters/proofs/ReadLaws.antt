@@ -4,7 +4,7 @@ use mathlib.Core.Bool.{Bool, true, false, cond}
 use mathlib.Core.Logic.{_⊎_, inl, inr}
 use mathlib.Core.List.{List}
 use mathlib.Core.Option.{some, none}
-use Prim.Native.Nat.{ℕ, _+_, _-_, _*_, _≤_, _<_}
+use Prim.Native.Nat.{ℕ, _-_, _*_, _≤_, _<_}
 use native.Mathlib.Omega.{arith}
 use lib.Dec.{eqb}
 use borrow.Author.Tests.{eq-eqb, ne-eqb}
@@ -17,17 +17,16 @@ use Rattle.words.specs.declared.handle.Handle.{Handle}
 use Rattle.words.specs.declared.refusal.Refusal.{Refusal}
 use Rattle.words.specs.declared.refusal.Verdict.{Verdict}
 use Rattle.words.specs.declared.refusal.Verdict.the-variants.{Refuse}
-use Rattle.words.proofs.Sums.{lt-or, ones-le, ones-mono}
+use Rattle.words.proofs.Sums.{lt-or, ones-flat, ones-le, ones-mono}
 use Rattle.words.proofs.WordLaws.{bitAt-le}
-use Rattle.words.proofs.CheckLaws.{judged-refuse}
-use Rattle.words.proofs.SearchLaws.{Place, select-exists, select-place, select-at, select-none, rank-ones, rank-both}
+use Rattle.words.proofs.CheckLaws.{not-both, judged-refuse}
+use Rattle.words.proofs.SearchLaws.{select-exists, select-place, select-at, select-none, rank-ones, rank-both}
 use Rattle.words.proofs.StripLaws.{strip-rank, strip-select}
 use Rattle.counters.specs.Tree.{blocksOf}
 use Rattle.counters.specs.Record.{Fits}
 use Rattle.counters.specs.Working.{AllFit}
 use Rattle.counters.specs.Promises.{AtMost, Below}
 use Rattle.counters.specs.Calls.{checks, held, rankTable, Ranked, selectTable, Selected, Verified}
-use Rattle.counters.proofs.ChangeLaws as C
 use Rattle.counters.proofs.PromiseLaws.{promise-passed, Sizes}
 
 -- the number of v among n cells of which x are ones
@@ -96,7 +95,7 @@ module _ (h : Handle) (ws cs : List ℕ) (v k x : ℕ) (z : Sizes h ws cs) (smal
     total-is : Fits h ws cs → x ≡ ones (bitAt ws) (h .length)
     total-is f =
         total (bitAt ws) (f .right) (λ p l. f .clean p (omega (arith, whole, z .long)))
-        ∙ ap (ones (bitAt ws)) whole ∙ C.ones-clean (bitAt ws) (h .length) (h .capacity) (z .long) (f .clean)
+        ∙ ap (ones (bitAt ws)) whole ∙ ones-flat (bitAt ws) (h .length) (h .capacity) (z .long) (f .clean)
 
     -- and the number of v is count(v, length)
     number-is : Fits h ws cs → ofValue v (h .length) x ≡ rankOf (bitAt ws) v (h .length)
@@ -146,14 +145,14 @@ verify-refused h ws cs w r e d =
     let j : judge (checks h (length ws) (length cs)) ≡ some (numberOf r) = judged-refuse (checks h (length ws) (length cs)) w r e d in
     record {
       early = (λ n q. let s : numberOf r ≡ n = cc in ap refused s);
-      fits = (λ q f. let y : _≡_ {A = ℕ} 0 1 = cc in absurd (omega arith));
-      unfit = (λ q f. let y : _≡_ {A = ℕ} 0 1 = cc in absurd (omega arith));
+      fits = (λ q f. not-both j q);
+      unfit = (λ q f. not-both j q);
     }
 
 pub verify-unfit : (h : Handle) (ws cs : List ℕ) → judge (checks h (length ws) (length cs)) ≡ none → (Fits h ws cs → ⊥) → Verified h ws cs (refused 9)
 verify-unfit h ws cs j no-fit =
     record {
-      early = (λ n q. let y : _≡_ {A = ℕ} 0 1 = cc in absurd (omega arith));
+      early = (λ n q. not-both q j);
       fits = (λ q f. absurd (no-fit f));
       unfit = (λ q f. refl);
     }
@@ -162,7 +161,7 @@ pub verify-fits : (h : Handle) (ws cs : List ℕ) (x : ℕ) → judge (checks h 
     → Verified h ws cs (value x)
 verify-fits h ws cs x j f e =
     record {
-      early = (λ n q. let y : _≡_ {A = ℕ} 0 1 = cc in absurd (omega arith));
+      early = (λ n q. not-both q j);
       fits = (λ q g.
           ap value (e ∙ sym (rank-ones (bitAt ws) (h .length) (bitAt-le ws)) ∙ sym (strip-rank ws (h .length) 1 (h .length) (native.Mathlib.Nat.le-refl (h .length)))));
       unfit = (λ q g. absurd (g f));

@@ -1,29 +1,29 @@
 -- The laws of select: the v among bits of which the ones are counted, the child of a node that holds the k-th v, the way down, and the position.
 -- Each holds for both values and all levels. Assumes nothing.
-use mathlib.Core.Path.{_≡_, refl, sym, ap, ap₂, _∙_, subst}
+use mathlib.Core.Path.{_≡_, refl, sym, ap, _∙_, subst}
 use mathlib.Core.Logic.{_⊎_, inl, inr}
 use mathlib.Core.List.{List}
 use Prim.Native.Nat.{ℕ, zero, suc, _+_, _-_, _*_, _/_, _%_, _^_, _≤_, _<_}
-use native.Mathlib.Nat.{le-refl, mul-zero, mul-one, mul-comm, mul-assoc, mul-left-comm, mul-add, mul-le-mul-left, mul-div-cancel-left, add-zero}
+use native.Mathlib.Nat.{le-refl, mul-one, mul-assoc, mul-left-comm, mul-add, mul-div-cancel-left, add-zero}
 use native.Mathlib.Numerals.{add-one}
 use native.Mathlib.Omega.{arith}
 use lib.ListN.{getD, take, drop}
-use lib.Seq.{getD-take, getD-drop}
 use lib.Dec.{lit<}
 use borrow.Author.Tests.{le-leb, lt-leb}
-use Rattle.words.specs.Bits.{bit, bitAt, ones}
+use Rattle.words.specs.Bits.{bitAt, ones}
 use Rattle.words.specs.Strip.{holds, rankOf, selectOf}
 use Rattle.words.specs.Words.{placeIn}
 use Rattle.words.specs.Working.{atMost}
-use Rattle.words.proofs.Sums.{lt-or, ones-zero, ones-more, ones-split, ones-const, ones-mono, ones-le}
-use Rattle.words.proofs.WordLaws.{holds-le}
+use Rattle.words.proofs.Sums.{lt-or, ones-more, ones-mono, ones-le}
+use Rattle.words.proofs.WordLaws.{holds-le, block-bit}
 use Rattle.words.proofs.SearchLaws.{rank-ones, rank-both, rank-part, placeIn-none, placeIn-place}
 use Rattle.words.proofs.SelectLaws.{Reached, reached}
 use Rattle.words.proofs.BlockSelectLaws.{part-select}
-use Rattle.counters.specs.Tree.{nodes, height, childBits, fromChild, toChild, counter, counterCount, indexOf}
+use Rattle.counters.specs.Tree.{nodes, height, childBits, fromChild, toChild, counterCount}
 use Rattle.counters.specs.Working.{AllFit}
 use Rattle.counters.specs.Descent.{Valued, Rising, Counted, Lies, valuesBefore}
-use Rattle.counters.proofs.TreeLaws.{height-pos, height-enough, nodes-root, childBits-one, childBits-suc, childBits-pos, prefix, prefix-zero, prefix-up, from-summary, to-summary, from-key, to-key, from-to, counter-prefix, start, start-next, index-is, index-lt}
+use Rattle.counters.proofs.TreeLaws.{nodes-root, childBits-one, childBits-pos, root-covers, prefix, prefix-mono, prefix-zero, prefix-up, from-summary, to-summary, from-key, to-key, from-to, start, start-next, Level}
+use Rattle.counters.proofs.FitLaws.{fit-sum}
 use Rattle.counters.proofs.FlipLaws.{child-there}
 
 -- ---- numbers
@@ -109,61 +109,16 @@ module _ (B : ℕ → ℕ) (v size : ℕ) (xs : List ℕ) (at : ℕ) (up : Risin
       let b : 8 * g + i + 1 ≡ 8 * g + suc i = omega arith in
       valued (8 + (8 * g + i)) (8 * g) (8 * g + suc i) (suc i) (at + 7 + 8 * g + suc i) (omega arith) (from-key (8 * g + i) ∙ e) (to-key (8 * g + i) ∙ b) refl (omega arith)
 
--- ---- the root
-
--- it covers every block
-pub root-covers : (n : ℕ) → n ≤ 262144 → 512 * n ≤ childBits (suc (height n))
-unfolding childBits
-root-covers n h =
-    let e : suc (height n) - 1 ≡ height n = omega arith in
-    subst (λ (x : ℕ). 512 * n ≤ 512 * 64 ^ x) (sym e) (mul-le-mul-left 512 (height-enough n h))
-
--- its counters are there
-pub root-there : (n : ℕ) → 0 < n → n ≤ 262144 → 72 ≤ counterCount n
-root-there n pos most =
-    let j : 0 < nodes n (height n) = omega (arith, nodes-root n pos most) in
-    omega (arith, index-lt n (height n) 0 71 (height-pos n) (le-refl (height n)) j (lit< tt), index-is n (height n) 0 71)
-
--- the ones of n blocks, by the root's last summary and its last key
-pub root-ones : (f : ℕ → ℕ) (n : ℕ) (xs : List ℕ) → 0 < n → n ≤ 262144 → AllFit f n xs → ((p : ℕ) → 512 * n ≤ p → f p ≡ 0)
-    → getD xs 7 0 + getD xs 71 0 ≡ ones f (512 * n)
-root-ones f n xs pos most fit clean =
-    let e : getD xs 7 0 + getD xs 71 0 ≡ prefix f (height n) 64 =
-    omega (arith, root 7 0 56 (lit< tt) (from-summary 7 (lit< tt)) (to-summary 7 (lit< tt)), root 71 56 64 (lit< tt) (from-key 63) (to-key 63), prefix-zero f (height n)) in
-    e ∙ up (height n) (height-pos n) ∙ tail
-  where
-    root : (i a b : ℕ) → i < 72 → fromChild i ≡ a → toChild i ≡ b → getD xs i 0 + prefix f (height n) a ≡ prefix f (height n) b
-    root i a b l ea eb =
-        let h : ℕ = height n in
-        let j : 0 < nodes n h = omega (arith, nodes-root n pos most) in
-        let p : indexOf n h 0 i ≡ i = index-is n h 0 i ∙ omega arith in
-        let x : getD xs i 0 ≡ counter f h 0 i = ap (λ (q : ℕ). getD xs q 0) (sym p) ∙ fit h 0 i (height-pos n) (le-refl h) j l in
-        let sa : 64 * 0 + fromChild i ≡ a = omega arith in
-        let sb : 64 * 0 + toChild i ≡ b = omega arith in
-        omega (arith, x, counter-prefix f h 0 i l, ap (prefix f h) sa, ap (prefix f h) sb)
-
-    up : (t : ℕ) → 1 ≤ t → prefix f t 64 ≡ ones f (childBits (suc t))
-    up zero h = absurd (omega arith)
-    up (suc t) h = sym (prefix-up f t 1) ∙ ap (ones f) (mul-one (childBits (suc (suc t))))
-
-    tail : ones f (childBits (suc (height n))) ≡ ones f (512 * n)
-    tail =
-        let d : ℕ = childBits (suc (height n)) - 512 * n in
-        let s : 512 * n + d ≡ childBits (suc (height n)) = omega (arith, root-covers n most) in
-        let z : ones (λ p. f (512 * n + p)) d ≡ d * 0 = ones-const (λ p. f (512 * n + p)) 0 d (λ p l. clean (512 * n + p) (omega arith)) in
-        omega (arith, ones-split f (512 * n) d, ap (ones f) s, z)
-
 -- ---- a level: f p is the bit at position p
 module _ (f : ℕ → ℕ) (v : ℕ) where
   -- more children, no fewer v
   pub values-rise : (t : ℕ) → Rising (valuesBefore f v t)
-  values-rise t a b l = ones-mono (holds f v) (mul-le-mul-left (childBits t) l)
+  values-rise t = prefix-mono (holds f v) t
 
   -- a node is the child of the level above
   pub values-up : (t j : ℕ) → 1 ≤ t → valuesBefore f v (suc t) j ≡ valuesBefore f v t (64 * j)
   values-up zero j h = absurd (omega arith)
-  values-up (suc t) j h =
-      ap (λ (b : ℕ). rankOf f v (b * j)) (childBits-suc t ∙ mul-comm 64 (childBits (suc t))) ∙ ap (rankOf f v) (mul-assoc (childBits (suc t)) 64 j)
+  values-up (suc t) j h = prefix-up (holds f v) t j
 
   module _ (bits : (p : ℕ) → f p ≤ 1) where
     -- of the d children from child a on x bits are ones: n are v
@@ -193,9 +148,8 @@ module _ (f : ℕ → ℕ) (v : ℕ) where
     pub node-counted : (n t j : ℕ) (xs : List ℕ) → AllFit f n xs → 1 ≤ t → t ≤ height n → j < nodes n t
         → Counted (λ c. valuesBefore f v t (64 * j + c)) v (childBits t) xs (start n t + 72 * j)
     node-counted n t j xs fit a b h i m l e =
-        let x : getD xs (start n t + 72 * j + i) 0 ≡ counter f t j i = ap (λ (p : ℕ). getD xs p 0) (sym (index-is n t j i)) ∙ fit t j i a b h l in
         values-valued t (64 * j + fromChild i) (64 * j + toChild i) (toChild i - fromChild i) (getD xs (start n t + 72 * j + i) 0) m
-        (omega (arith, from-to i l .0)) (ap (λ (y : ℕ). y + prefix f t (64 * j + fromChild i)) x ∙ counter-prefix f t j i l) e
+        (omega (arith, from-to i l .0)) (fit-sum f n xs t (λ k c. fit t k c a b) j i h l) e
 
     -- from node j of level t, which holds the k-th v, to the child that does
     pub lies-down : (n t j k left c rest : ℕ) (xs : List ℕ) → AllFit f n xs → 1 ≤ t → t ≤ height n → j < nodes n t → Lies (valuesBefore f v (suc t)) k j left
@@ -215,7 +169,7 @@ module _ (f : ℕ → ℕ) (v : ℕ) where
   pub root-lies : (n k : ℕ) → n ≤ 262144 → k < rankOf f v (512 * n) → Lies (valuesBefore f v (suc (height n))) k 0 k
   root-lies n k h l =
       record {
-        under = omega (arith, ap (rankOf f v) (mul-zero (childBits (suc (height n)))), ones-zero (holds f v));
+        under = omega (arith, prefix-zero (holds f v) (suc (height n)));
         over = omega (arith, l, ones-mono (holds f v) (root-covers n h), ap (rankOf f v) (mul-one (childBits (suc (height n)))));
       }
 
@@ -236,8 +190,7 @@ module _ (n v k : ℕ) (xs : List ℕ) where
   -- at node j of level t, which has `count` nodes, whose counters start at `from`
   pub record Way (t count from j left : ℕ) : Type 0 where
     pub level : t ≤ height n
-    pub many : count ≡ nodes n t
-    pub place : from ≡ start n t
+    pub place : Level n t count from
     pub there : j < count
     pub leads : Leads t j left
 
@@ -246,8 +199,7 @@ module _ (n v k : ℕ) (xs : List ℕ) where
   way-root pos most =
       record {
         level = le-refl (height n);
-        many = sym (nodes-root n pos most);
-        place = omega arith;
+        place = record { counted = sym (nodes-root n pos most); starts = omega arith };
         there = lit< tt;
         leads = (λ f bits fit l. root-lies f v n k most l);
       }
@@ -257,7 +209,7 @@ module _ (n v k : ℕ) (xs : List ℕ) where
   way-end zero count from j left h w = absurd (omega arith)
   way-end (suc t) count from j left h w =
       let e : suc t - 1 ≡ t = omega arith in
-      let s : from + 72 * count ≡ start n t = omega (arith, w .many, w .place, start-next n t (w .level)) in
+      let s : from + 72 * count ≡ start n t = omega (arith, w .place .counted, w .place .starts, start-next n t (w .level)) in
       (s ∙ ap (start n) (sym e), omega arith)
 
   -- to child c, which holds the k-th v where the counters of the node give it
@@ -266,10 +218,10 @@ module _ (n v k : ℕ) (xs : List ℕ) where
       → Leads (t - 1) (64 * j + c) rest
   way-down t count from j left size c rest h w es found f bits fit l =
       let e : t ≡ suc (t - 1) = omega arith in
-      let there : j < nodes n t = omega (arith, w .there, w .many) in
+      let there : j < nodes n t = omega (arith, w .there, w .place .counted) in
       subst (λ (s : ℕ). Lies (valuesBefore f v s) k (64 * j + c) rest) e
       (lies-down f v bits n t j k left c rest xs fit h (w .level) there (w .leads f bits fit l) (λ B m up counts.
-      found B m up (subst (λ (s : ℕ). Counted B v s xs (from + 72 * j)) (sym es) (subst (λ (s : ℕ). Counted B v (childBits t) xs (s + 72 * j)) (sym (w .place)) counts))))
+      found B m up (subst (λ (s : ℕ). Counted B v s xs (from + 72 * j)) (sym es) (subst (λ (s : ℕ). Counted B v (childBits t) xs (s + 72 * j)) (sym (w .place .starts)) counts))))
 
 -- ---- the position
 
@@ -284,14 +236,6 @@ select-le f n v k = go (lt-or k (rankOf f v n))
 -- no more v than positions
 pub rank-le : (f : ℕ → ℕ) (v n : ℕ) → rankOf f v n ≤ n
 rank-le f v n = ones-le (holds f v) n (holds-le f v)
-
--- the eight words of block b
-pub block-bit : (ws : List ℕ) (b m p : ℕ) → m ≡ 8 → p < 512 → bitAt (take m (drop (8 * b) ws)) p ≡ bitAt ws (512 * b + p)
-block-bit ws b m p e h =
-    let l : p / 64 < m = omega arith in
-    let q : 8 * b + p / 64 ≡ (512 * b + p) / 64 = omega arith in
-    let r : p % 64 ≡ (512 * b + p) % 64 = omega arith in
-    ap₂ (λ (x y : ℕ). bit x y) (getD-take m (drop (8 * b) ws) (p / 64) 0 l ∙ getD-drop (8 * b) ws (p / 64) 0 ∙ ap (λ (i : ℕ). getD ws i 0) q) r
 
 -- in block b, which holds the k-th v
 pub block-place : (ws : List ℕ) (n b v k left m r : ℕ) → m ≡ 8 → b < n → Lies (valuesBefore (bitAt ws) v 1) k b left

@@ -1,4 +1,4 @@
--- A list after a store, after a part of it was lent and came back, and a part of a list, by their elements. Assumes nothing.
+-- A list after a store, a part of it, and the whole after a part was lent and came back, by their elements. Assumes nothing.
 use mathlib.Core.Path.{_≡_, sym, ap, _∙_}
 use mathlib.Core.Logic.{_⊎_, inl, inr}
 use mathlib.Core.List.{List, _++_}
@@ -6,15 +6,7 @@ use Prim.Native.Nat.{ℕ, _+_, _-_, _≤_, _<_}
 use native.Mathlib.Omega.{arith}
 use lib.ListN.{length, getD, set, take, drop, length-append, length-drop, List·getD-append}
 use lib.Seq.{length-take-le, getD-take, getD-drop, getD-append-add, getD-set-same, getD-set-other}
-use Rattle.words.proofs.Sums.{lt-or}
-
--- element i of n elements from a on
-pub part-at : (xs : List ℕ) (a n i : ℕ) → i < n → getD (take n (drop a xs)) i 0 ≡ getD xs (a + i) 0
-part-at xs a n i h = getD-take n (drop a xs) i 0 h ∙ getD-drop a xs i 0
-
--- their number
-pub part-length : (xs : List ℕ) (a n : ℕ) → a + n ≤ length xs → length (take n (drop a xs)) ≡ n
-part-length xs a n h = length-take-le n (drop a xs) (omega (arith, length-drop a xs))
+use Rattle.words.proofs.Sums.{lt-or, part-at}
 
 -- the elements below c, and a store at c
 pub set-more : (h : ℕ → ℕ) (xs : List ℕ) (c v : ℕ) → c < length xs → ((d : ℕ) → d < c → getD xs d 0 ≡ h d) → v ≡ h c
@@ -27,49 +19,61 @@ set-more h xs c v l low e d q = go (lt-or d c)
         let s : d ≡ c = omega arith in
         ap (λ (k : ℕ). getD (set xs c v) k 0) s ∙ getD-set-same xs c v 0 l ∙ e ∙ ap h (sym s)
 
--- xs with ys in place of the elements from a on, of which there are k
-abbrev pub splice : List ℕ → ℕ → List ℕ → ℕ → List ℕ
-splice xs a ys k = take a xs ++ (ys ++ drop k (drop a xs))
+-- the number of k elements from a on
+pub part-length : {A : Type 0} (xs : List A) (a k : ℕ) → a + k ≤ length xs → length (take k (drop a xs)) ≡ k
+part-length xs a k fits = length-take-le k (drop a xs) (simp length-drop (omega arith))
 
--- a part was lent and comes back as ys, as long as it was
-module _ (xs : List ℕ) (a : ℕ) (ys : List ℕ) (k : ℕ) (kept : length ys ≡ length (take k (drop a xs))) (room : a + k ≤ length xs) where
-  -- the part's length
-  size : length ys ≡ k
-  size = kept ∙ part-length xs a k room
+-- the whole, when the k elements from a on were lent and have come back as ws
+abbrev pub splice : {A : Type 0} → ℕ → ℕ → List A → List A → List A
+splice a k xs ws = take a xs ++ (ws ++ drop k (drop a xs))
 
-  -- and that of what stands before it
-  front : length (take a xs) ≡ a
-  front = length-take-le a xs (omega arith)
+-- `kept`, that what came back is as long as what was lent, is a call's `.kept`
+module _ {A : Type 0} (a k : ℕ) (xs ws : List A) (fits : a + k ≤ length xs) (kept : length ws ≡ length (take k (drop a xs))) where
+  -- as many elements come back
+  back-length : length ws ≡ k
+  back-length = kept ∙ part-length xs a k fits
 
-  -- as long as before
-  pub splice-length : length (splice xs a ys k) ≡ length xs
-  splice-length =
-      length-append (take a xs) (ys ++ drop k (drop a xs))
-      ∙ omega (arith, size, front, length-append ys (drop k (drop a xs)), length-drop k (drop a xs), length-drop a xs)
+  -- as many stand before them
+  head-length : length (take a xs) ≡ a
+  head-length = length-take-le a xs (omega arith)
 
-  -- an element before the part
-  pub splice-below : (x : ℕ) → x < a → getD (splice xs a ys k) x 0 ≡ getD xs x 0
-  splice-below x h =
-      List·getD-append (take a xs) (ys ++ drop k (drop a xs)) 0 x (omega (arith, front)) ∙ getD-take a xs x 0 h
+  -- the whole keeps its length
+  pub splice-length : length (splice a k xs ws) ≡ length xs
+  splice-length = simp (length-append, length-drop) (omega (arith, head-length, back-length))
 
-  -- element a + y of the whole is element y of the part and what follows it
-  past : (y : ℕ) → getD (splice xs a ys k) (a + y) 0 ≡ getD (ys ++ drop k (drop a xs)) y 0
-  past y =
-      ap (λ (n : ℕ). getD (splice xs a ys k) (n + y) 0) (sym front) ∙ getD-append-add (take a xs) (ys ++ drop k (drop a xs)) y 0
+  -- below the part nothing has changed
+  pub splice-below : (z : A) (x : ℕ) → x < a → getD (splice a k xs ws) x z ≡ getD xs x z
+  splice-below z x h =
+      List·getD-append (take a xs) (ws ++ drop k (drop a xs)) z x (omega (arith, head-length)) ∙ getD-take a xs x z h
 
-  -- element i of the part
-  pub splice-in : (i : ℕ) → i < k → getD (splice xs a ys k) (a + i) 0 ≡ getD ys i 0
-  splice-in i h = past i ∙ List·getD-append ys (drop k (drop a xs)) 0 i (omega (arith, size))
+  -- past the head stand what came back and the rest
+  splice-past : (z : A) (x : ℕ) → a ≤ x → getD (splice a k xs ws) x z ≡ getD (ws ++ drop k (drop a xs)) (x - a) z
+  splice-past z x h =
+      let e : x ≡ length (take a xs) + (x - a) = omega (arith, head-length) in
+      ap (λ (y : ℕ). getD (splice a k xs ws) y z) e ∙ getD-append-add (take a xs) (ws ++ drop k (drop a xs)) (x - a) z
 
-  -- an element after the part
-  pub splice-above : (x : ℕ) → a + k ≤ x → getD (splice xs a ys k) x 0 ≡ getD xs x 0
-  splice-above x h =
-      let y : ℕ = x - a - k in
-      let e : x ≡ a + (length ys + y) = omega (arith, size) in
-      let s : a + (k + y) ≡ x = omega arith in
-      ap (λ (n : ℕ). getD (splice xs a ys k) n 0) e
-      ∙ past (length ys + y)
-      ∙ getD-append-add ys (drop k (drop a xs)) y 0
-      ∙ getD-drop k (drop a xs) y 0
-      ∙ getD-drop a xs (k + y) 0
-      ∙ ap (λ (n : ℕ). getD xs n 0) s
+  -- inside it stands what came back
+  pub splice-in : (z : A) (x i : ℕ) → x ≡ a + i → i < k → getD (splice a k xs ws) x z ≡ getD ws i z
+  splice-in z x i e h =
+      let f : x - a ≡ i = omega arith in
+      splice-past z x (omega arith)
+      ∙ ap (λ (y : ℕ). getD (ws ++ drop k (drop a xs)) y z) f
+      ∙ List·getD-append ws (drop k (drop a xs)) z i (omega (arith, back-length))
+
+  -- from its end on nothing has changed
+  pub splice-above : (z : A) (x : ℕ) → a + k ≤ x → getD (splice a k xs ws) x z ≡ getD xs x z
+  splice-above z x h =
+      let e : x - a ≡ length ws + (x - a - k) = omega (arith, back-length) in
+      let f : a + (k + (x - a - k)) ≡ x = omega arith in
+      splice-past z x (omega arith)
+      ∙ ap (λ (y : ℕ). getD (ws ++ drop k (drop a xs)) y z) e
+      ∙ getD-append-add ws (drop k (drop a xs)) (x - a - k) z
+      ∙ getD-drop k (drop a xs) (x - a - k) z
+      ∙ getD-drop a xs (k + (x - a - k)) z
+      ∙ ap (λ (y : ℕ). getD xs y z) f
+
+  -- where each element of the part has become f of it, so has each of the whole inside
+  pub splice-each : (f : ℕ → A → A) (z : A) → ((i : ℕ) → i < k → getD ws i z ≡ f i (getD (take k (drop a xs)) i z))
+      → (x i : ℕ) → x ≡ a + i → i < k → getD (splice a k xs ws) x z ≡ f i (getD xs x z)
+  splice-each f z each x i e h =
+      splice-in z x i e h ∙ each i h ∙ ap (f i) (part-at xs a k z i h ∙ ap (λ (y : ℕ). getD xs y z) (sym e))

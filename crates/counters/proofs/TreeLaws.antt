@@ -1,19 +1,19 @@
 -- The laws of the tree's shape: nodes, levels, height, child sizes, where a counter stands, and a counter as a difference of prefix sums.
 -- Assumes nothing.
 use mathlib.Core.Path.{_≡_, refl, sym, ap, ap₂, _∙_, subst}
-use mathlib.Core.Bool.{Bool, true, false, cond, _&&_}
+use mathlib.Core.Bool.{Bool, true, false, cond}
 use mathlib.Core.Logic.{_⊎_, inl, inr}
-use Prim.Native.Nat.{ℕ, zero, suc, _+_, _-_, _*_, _/_, _%_, _^_, _≤_, _<_, zero-le, suc-le-suc}
-use native.Mathlib.Nat.{pow-suc, pow-le-pow-right, zero-lt-suc, div-div-eq-div-mul, add-mul-div-right, add-mul-div-left, div-one, mul-assoc, mul-comm, mul-add, add-mul, mul-one, add-assoc, add-comm, mul-zero, le-refl, le-trans, lt-of-lt-of-le, lt-of-le-of-lt, mul-le-mul-left, div-lt-iff-lt-mul, le-div-iff-mul-le}
+use Prim.Native.Nat.{ℕ, zero, suc, _+_, _-_, _*_, _/_, _%_, _^_, _≤_, _<_}
+use native.Mathlib.Nat.{pow-suc, div-div-eq-div-mul, add-mul-div-left, div-one, mul-assoc, mul-comm, mul-zero, le-refl, mul-le-mul-left}
 use native.Mathlib.Numerals.{add-one}
 use native.Mathlib.Omega.{arith}
-use lib.Dec.{leb, ltb, lit<, lit≤}
+use lib.Dec.{leb, lit<, lit≤}
 use borrow.Author.Tests.{le-leb, lt-leb, lt-ltb, le-ltb}
 use Rattle.words.specs.Bits.{ones}
 use Rattle.words.specs.Strip.{least}
 use Rattle.words.specs.Words.{placeIn}
-use Rattle.words.proofs.Sums.{lt-or, ones-zero, ones-suc, ones-more, ones-split, ones-ext, ones-mono}
-use Rattle.counters.specs.Tree.{nodes, height, childBits, childOnes, fromChild, toChild, counter, total, counterCount, indexOf, childOf, slot, counts}
+use Rattle.words.proofs.Sums.{lt-or, ones-zero, ones-suc, ones-split, ones-mono}
+use Rattle.counters.specs.Tree.{nodes, height, childBits, childOnes, fromChild, toChild, counter, total, counterCount, indexOf, childOf}
 
 -- ---- powers of 64
 pub pow64-pos : (t : ℕ) → 0 < 64 ^ t
@@ -164,6 +164,23 @@ pub childOf-suc : (t p : ℕ) → childOf (suc (suc t)) p ≡ childOf (suc t) p 
 childOf-suc t p =
     ap (λ (b : ℕ). p / b) (childBits-suc t ∙ mul-comm 64 (childBits (suc t))) ∙ sym (div-div-eq-div-mul p (childBits (suc t)) 64)
 
+-- 512 n bits reach no further than the nodes of a level
+pub nodes-cover : (n t : ℕ) → 512 * n ≤ childBits (suc t) * nodes n t
+nodes-cover n zero = omega (arith, ap₂ (λ (a b : ℕ). a * b) childBits-one (nodes-zero n))
+nodes-cover n (suc t) =
+    let b : ℕ = childBits (suc t) in
+    let up : nodes n t ≤ 64 * nodes n (suc t) = omega (arith, nodes-suc n t) in
+    let e : childBits (suc (suc t)) * nodes n (suc t) ≡ b * (64 * nodes n (suc t)) =
+    ap (λ (x : ℕ). x * nodes n (suc t)) (childBits-suc t ∙ mul-comm 64 b) ∙ mul-assoc b 64 (nodes n (suc t)) in
+    omega (arith, nodes-cover n t, mul-le-mul-left b up, e)
+
+-- the root covers every block
+pub root-covers : (n : ℕ) → n ≤ 262144 → 512 * n ≤ childBits (suc (height n))
+unfolding childBits
+root-covers n h =
+    let e : suc (height n) - 1 ≡ height n = omega arith in
+    subst (λ (x : ℕ). 512 * n ≤ 512 * 64 ^ x) (sym e) (mul-le-mul-left 512 (height-enough n h))
+
 -- ---- prefix sums: the ones in the first m children of level t
 abbrev pub prefix : (ℕ → ℕ) → ℕ → ℕ → ℕ
 prefix f t m = ones f (childBits t * m)
@@ -247,10 +264,38 @@ start-next n t h = omega (arith, total-suc n t, total-mono n h)
 pub start-zero : (n : ℕ) → start n 0 ≡ counterCount n
 start-zero n = omega (arith, total-zero n)
 
+-- level t has `count` nodes, and its counters start at `from`; the blocks are level 0
+pub record Level (n t count from : ℕ) : Type 0 where
+  pub counted : count ≡ nodes n t
+  pub starts : from ≡ start n t
+
+-- the blocks end where the counters do
+pub level-blocks : (n size : ℕ) → size ≡ counterCount n → Level n 0 n size
+level-blocks n size e = record { counted = sym (nodes-zero n); starts = e ∙ sym (start-zero n) }
+
+-- the next level, as the code has it, ends where this one starts
+pub level-ends : {n t count from : ℕ} → Level n t count from → t < height n → start n (t + 1) + 72 * ((count + 63) / 64) ≡ from
+level-ends {n} {t} L l = omega (arith, L .counted, L .starts, nodes-suc n t, start-next n t l, ap (start n) (add-one t))
+
+-- its nodes and its start
+pub level-next : {n t count from : ℕ} → Level n t count from → t < height n → Level n (t + 1) ((count + 63) / 64) (from - 72 * ((count + 63) / 64))
+level-next {n} {t} L l =
+    record { counted = ap (λ (m : ℕ). (m + 63) / 64) (L .counted) ∙ sym (nodes-more n t); starts = omega (arith, level-ends L l) }
+
+-- there is room for it before this one
+pub level-room : {n t count from : ℕ} → Level n t count from → t < height n → (72 * ((count + 63) / 64) ≤ from) × (from ≤ counterCount n)
+level-room L l = omega (arith, level-ends L l, L .starts)
+
 -- within the counters
 pub index-lt : (n t j i : ℕ) → 1 ≤ t → t ≤ height n → j < nodes n t → i < 72 → indexOf n t j i < counterCount n
 index-lt n zero j i a b c d = absurd (omega arith)
 index-lt n (suc t) j i a b c d = omega (arith, index-is n (suc t) j i, start-next n t b)
+
+-- the root is there
+pub root-there : (n : ℕ) → 0 < n → n ≤ 262144 → 72 ≤ counterCount n
+root-there n pos most =
+    let j : 0 < nodes n (height n) = omega (arith, nodes-root n pos most) in
+    omega (arith, index-lt n (height n) 0 71 (height-pos n) (le-refl (height n)) j (lit< tt), index-is n (height n) 0 71)
 
 -- a level above stands before
 pub start-before : (n s t : ℕ) → s < t → t ≤ height n → start n t + 72 * nodes n t ≤ start n s

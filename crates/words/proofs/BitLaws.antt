@@ -1,8 +1,7 @@
 -- The laws of `bit x p`: of shifts, masks and the machine's operators, and of the machine's count of ones. Assumes nothing.
-use mathlib.Core.Path.{_≡_, refl, sym, ap, ap₂, _∙_, subst}
-use mathlib.Core.Logic.{_⊎_, inl, inr}
+use mathlib.Core.Path.{_≡_, refl, sym, ap, _∙_, subst}
 use Prim.Native.Nat.{ℕ, zero, suc, _+_, _-_, _*_, _/_, _%_, _^_, _≤_, _<_, min, max}
-use native.Mathlib.Nat.{mod-lt, mod-eq-of-lt, div-one, div-eq-of-lt, le-of-suc-le-suc, pow-suc, one-mul, mul-mod-left, zero-mod, mul-div-cancel, mul-assoc, zero-lt-suc, lt-of-le-of-lt, lt-of-lt-of-le, min-le-left}
+use native.Mathlib.Nat.{mod-lt, mod-eq-of-lt, div-one, div-eq-of-lt, le-of-suc-le-suc, pow-suc, one-mul, mul-mod-left, zero-div, zero-mod, mul-div-cancel, mul-assoc, zero-lt-suc, lt-of-le-of-lt, lt-of-lt-of-le, min-le-left}
 use native.Mathlib.Numerals.{add-one, one-add}
 use native.Mathlib.Omega.{arith}
 use lib.Dec.{lit<}
@@ -18,6 +17,10 @@ bit-lt x p = mod-lt (x / 2 ^ p) (zero-lt-suc 1)
 
 pub bit-le : (x p : ℕ) → bit x p ≤ 1
 bit-le x p = le-of-suc-le-suc (bit-lt x p)
+
+-- 0 has no one
+pub zero-bit : (p : ℕ) → bit 0 p ≡ 0
+zero-bit p = ap (λ (n : ℕ). n % 2) (zero-div (2 ^ p)) ∙ zero-mod 2
 
 -- ---- shifts
 pub bit-shr : (x a p : ℕ) → bit (x / 2 ^ a) p ≡ bit x (a + p)
@@ -70,13 +73,12 @@ count-is (suc k) x h =
 -- the ones of the low i bits, as those of a number with no other
 pub ones-mod : (x i n : ℕ) → i ≤ n → ones (bit (x % 2 ^ i)) n ≡ ones (bit x) i
 ones-mod x i n h =
-    let e : i + (n - i) ≡ n = omega arith in
-    let zeros : ones (λ p. bit (x % 2 ^ i) (i + p)) (n - i) ≡ (n - i) * 0 =
-    S.ones-const (λ p. bit (x % 2 ^ i) (i + p)) 0 (n - i) (λ p l. bit-high (x % 2 ^ i) i (i + p) (mod-lt x (pow-pos i)) (omega arith)) in
-    let low : ones (bit (x % 2 ^ i)) i ≡ ones (bit x) i = S.ones-ext (bit (x % 2 ^ i)) (bit x) i (λ p l. bit-mod x i p l) in
-    let s : ones (bit (x % 2 ^ i)) n ≡ ones (bit (x % 2 ^ i)) i + ones (λ p. bit (x % 2 ^ i) (i + p)) (n - i) =
-    rw e at (S.ones-split (bit (x % 2 ^ i)) i (n - i)) in
-    omega (arith, zeros, low, s)
+    S.ones-flat (bit (x % 2 ^ i)) i n h (λ p l. bit-high (x % 2 ^ i) i p (mod-lt x (pow-pos i)) l)
+    ∙ S.ones-ext (bit (x % 2 ^ i)) (bit x) i (λ p l. bit-mod x i p l)
+
+-- those that a mask of the low i bits leaves
+pub masked-ones : (x i : ℕ) → i ≤ 64 → ones (bit (bitAnd x (2 ^ i - 1))) 64 ≡ ones (bit x) i
+masked-ones x i h = ap (λ (n : ℕ). ones (bit n) 64) (and-mask x i) ∙ ones-mod x i 64 h
 
 -- ---- and, or, exclusive or, not
 differ-lt : (x y : ℕ) → x < 2 → y < 2 → differ x y < 2

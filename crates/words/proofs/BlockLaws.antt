@@ -5,15 +5,11 @@ use mathlib.Core.List.{List}
 use Prim.Native.Nat.{ℕ, _+_, _-_, _*_, _^_, _≤_, _<_, min}
 use native.Mathlib.Omega.{arith}
 use lib.ListN.{getD}
-use lib.Bits.{bitAnd, and-mask}
+use lib.Bits.{bitAnd}
 use Rattle.words.specs.Bits.{bit, bitAt, ones}
 use Rattle.words.proofs.Sums.{lt-or, ones-zero}
-use Rattle.words.proofs.BitLaws.{ones-mod}
+use Rattle.words.proofs.BitLaws.{masked-ones}
 use Rattle.words.proofs.WordLaws.{word-ones}
-
--- the ones that a mask of the low i bits leaves
-pub masked-ones : (x i : ℕ) → i ≤ 64 → ones (bit (bitAnd x (2 ^ i - 1))) 64 ≡ ones (bit x) i
-masked-ones x i h = ap (λ (n : ℕ). ones (bit n) 64) (and-mask x i) ∙ ones-mod x i 64 h
 
 -- of the positions below m, those of one more word
 pub masked-word : (ws : List ℕ) (m j : ℕ)

@@ -1,11 +1,11 @@
 -- The laws of tables of refusals: one table after another, and what a table that passes says. Assumes nothing.
 use mathlib.Core.Path.{_≡_, refl, sym, ap, _∙_}
-use mathlib.Core.Bool.{Bool, true, false, not, cond, _&&_}
+use mathlib.Core.Bool.{Bool, true, false, cond, _&&_}
 use mathlib.Core.List.{List, [], _∷_, _++_}
 use mathlib.Core.Option.{Option, some, none}
-use Prim.Native.Nat.{ℕ, _/_, _%_, _≤_, _<_}
+use Prim.Native.Nat.{ℕ, _%_, _≤_, _<_}
 use native.Mathlib.Omega.{arith}
-use lib.Dec.{leb, ltb, eqb}
+use lib.Dec.{leb, eqb}
 use borrow.Author.Tests.{eqb-true, leb-true, leb-false, ltb-false}
 use Rattle.words.specs.declared.handle.Handle.{Handle}
 use Rattle.words.specs.declared.refusal.Refusal.{Refusal}
@@ -35,6 +35,10 @@ refused-first a b v r e d = rw (judge-append, ← e, d) refl
 pub passed-first : (a b : List Line) (v : Verdict) → verdictOf v ≡ judge a → v ≡ Pass → judge (a ++ b) ≡ judge b
 passed-first a b v e d = rw (judge-append, ← e, d) refl
 
+-- a table does not refuse and pass
+pub not-both : {A : Type 0} {o : Option ℕ} {n : ℕ} → o ≡ some n → o ≡ none → A
+not-both a b = let z : _≡_ {A = ℕ} 0 1 = cc in absurd (omega arith)
+
 -- a table by the verdict of a function that judged it
 pub judged-refuse : (t : List Line) (v : Verdict) (r : Refusal) → verdictOf v ≡ judge t → v ≡ Refuse r → judge t ≡ some (numberOf r)
 judged-refuse t v r e d = sym e ∙ ap verdictOf d
@@ -61,7 +65,7 @@ passes [] h = tt
 passes (l ∷ ls) h = go (l .applies) refl h (passes ls)
   where
     go : (t : Bool) → l .applies ≡ t → cond t (some (l .number)) (judge ls) ≡ none → (judge ls ≡ none → Passes ls) → (l .applies ≡ false) × Passes ls
-    go true e p ih = let z : _≡_ {A = ℕ} 0 1 = cc in absurd (omega arith)
+    go true e p ih = not-both refl p
     go false e p ih = (e, ih p)
 
 -- both tables passed
@@ -70,7 +74,7 @@ passed-both a b h = go (judge a) refl (sym (judge-append a b) ∙ h)
   where
     go : (v : Option ℕ) → judge a ≡ v → orElse v (judge b) ≡ none → (judge a ≡ none) × (judge b ≡ none)
     go none e p = (e, p)
-    go (some n) e p = let z : _≡_ {A = ℕ} 0 1 = cc in absurd (omega arith)
+    go (some n) e p = not-both refl p
 
 -- what the checks shared by all strip calls leave
 pub record Checked (h : Handle) (words : ℕ) (counted : Bool) : Type 0 where

@@ -1,17 +1,18 @@
--- The laws of `RangePut`, a list of words with some positions written: by one word stored, by ranges that meet, and what it does to the ones.
--- Assumes nothing.
+-- The laws of `RangePut`, a list of words with some positions written: by one word stored, by ranges that meet, and what it does to the ones;
+-- and of a list whose elements become 0. Assumes nothing.
 use mathlib.Core.Path.{_≡_, refl, sym, ap, _∙_, subst₂}
 use mathlib.Core.Logic.{_⊎_, inl, inr}
-use mathlib.Core.List.{List}
-use Prim.Native.Nat.{ℕ, _+_, _-_, _*_, _/_, _%_, _≤_, _<_}
+use mathlib.Core.List.{List, _++_, append-nil}
+use Prim.Native.Nat.{ℕ, _+_, _-_, _*_, _/_, _%_, _≤_, _<_, zero-le}
 use native.Mathlib.Nat.{le-refl}
 use native.Mathlib.Decide.{ℕ-discrete}
 use native.Mathlib.Omega.{arith}
-use lib.ListN.{length, getD, set, length-set}
-use lib.Seq.{getD-set-same, getD-set-other}
+use lib.ListN.{length, getD, set, drop, replicate, length-set}
+use lib.Seq.{getD-set-same, getD-set-other, drop-length}
+use borrow.Author.Fill.{fill-none, fill-more}
 use Rattle.words.specs.Bits.{bit, bitAt, ones}
 use Rattle.words.specs.Working.{Written, RangePut}
-use Rattle.words.proofs.Sums.{lt-or, ones-split, ones-const, ones-outside}
+use Rattle.words.proofs.Sums.{lt-or, ones-range}
 use Rattle.words.proofs.WordLaws.{word-bit}
 
 -- ---- ranges
@@ -104,9 +105,28 @@ whole-put ws k b r h x =
 pub range-ones : (ws vs : List ℕ) (a e b n : ℕ) → RangePut ws a e b vs → a ≤ e → e ≤ n
     → ones (bitAt vs) n + ones (bitAt ws) e ≡ ones (bitAt ws) n + (ones (bitAt ws) a + (e - a) * b)
 range-ones ws vs a e b n x la le =
-    let o = ones-outside (bitAt vs) (bitAt ws) a e n la le (x .under) (x .over) in
-    let m : a + (e - a) ≡ e = omega arith in
-    let s : ones (bitAt vs) e ≡ ones (bitAt vs) a + ones (λ p. bitAt vs (a + p)) (e - a) = rw m at (ones-split (bitAt vs) a (e - a)) in
-    let c : ones (λ p. bitAt vs (a + p)) (e - a) ≡ (e - a) * b =
-    ones-const (λ p. bitAt vs (a + p)) b (e - a) (λ p l. x .inside (a + p) (omega arith) (omega arith)) in
-    omega (arith, o .0, o .1, s, c)
+    ones-range (bitAt vs) (bitAt ws) a e n b la le (x .under) (x .inside) (λ p l u. x .over p l)
+
+-- ---- a list whose elements become 0
+
+-- ys is xs with its first k elements made 0
+abbrev pub Zeroed : List ℕ → List ℕ → ℕ → Type 0
+Zeroed xs ys k = (k ≤ length xs) × (length ys ≡ length xs) × (ys ≡ replicate k 0 ++ drop k xs)
+
+-- none yet
+pub zeroed-none : (xs : List ℕ) → Zeroed xs xs 0
+zeroed-none xs = (zero-le, refl, fill-none xs 0)
+
+-- one more
+pub zeroed-more : (xs ys : List ℕ) (k : ℕ) → Zeroed xs ys k → k < length xs → Zeroed xs (set ys k 0) (k + 1)
+zeroed-more xs ys k z l =
+    (omega arith, length-set ys k 0 ∙ z .1, ap (λ (zs : List ℕ). set zs k 0) (z .2) ∙ fill-more k 0 xs l)
+
+-- all
+pub zeroed-done : (xs ys : List ℕ) (k : ℕ) → Zeroed xs ys k → length xs ≤ k → ys ≡ replicate (length xs) 0
+zeroed-done xs ys k z h =
+    let e : k ≡ length xs = omega (arith, z .0) in
+    z .2
+    ∙ ap (λ (n : ℕ). replicate n 0 ++ drop n xs) e
+    ∙ ap (λ (zs : List ℕ). replicate (length xs) 0 ++ zs) (drop-length xs)
+    ∙ append-nil (replicate (length xs) 0)

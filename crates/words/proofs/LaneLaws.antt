@@ -2,7 +2,7 @@
 use mathlib.Core.Path.{_≡_, refl, sym, ap, ap₂, _∙_, subst}
 use mathlib.Core.Bool.{Bool, true, false, cond}
 use Prim.Native.Nat.{ℕ, zero, suc, _+_, _-_, _*_, _/_, _%_, _^_, _≤_, _<_, suc-le-suc}
-use native.Mathlib.Nat.{mod-lt, zero-lt-suc, mul-suc, suc-mul, mul-zero, mul-add, add-mul, mul-assoc, mul-comm, add-comm, div-one, mul-div-cancel, le-of-suc-le-suc, not-suc-le-zero}
+use native.Mathlib.Nat.{mod-lt, zero-lt-suc, mul-suc, mul-zero, mul-add, add-mul, mul-assoc, mul-comm, add-comm, div-one, mul-div-cancel, le-of-suc-le-suc, not-suc-le-zero}
 use native.Mathlib.Numerals.{add-one}
 use native.Mathlib.Omega.{arith}
 use borrow.Author.Tests.{leb-true, leb-false}
@@ -13,7 +13,7 @@ use lib.Bits.{bitAnd, and-zero-r, and-block, and-high}
 use Rattle.words.specs.Bits.{bit, digits, ones}
 use Rattle.words.specs.Words.{byteOf, onesInByte, Prefixes}
 use Rattle.words.specs.Working.{atMost}
-use Rattle.words.proofs.Sums.{ones-zero, ones-suc, ones-le}
+use Rattle.words.proofs.Sums.{ones-le, ones-most}
 use Rattle.words.proofs.BitLaws.{bit-le}
 
 -- ---- fields: field i of z, of w bits
@@ -108,11 +108,6 @@ digits-and w z h (suc n) small =
     ∙ sym (digits-suc (2 ^ w) (λ i. bitAnd (field w z i) (h i)) n)
 
 -- ---- the product of eight lanes by 0x0101_0101_0101_0101
--- terms of at most c: at most c for each position
-pub ones-most : (g : ℕ → ℕ) (c n : ℕ) → ((i : ℕ) → g i ≤ c) → ones g n ≤ n * c
-ones-most g c zero h = omega (arith, ones-zero g)
-ones-most g c (suc n) h = omega (arith, ones-suc g n, ones-most g c n h, h n, suc-mul n c)
-
 -- lane j of it is the sum of the lanes 0 to j
 pub lane-sums : (g : ℕ → ℕ) → ((i : ℕ) → g i ≤ 8) → (digits (2 ^ 8) g 8 * 0x0101_0101_0101_0101) % 2 ^ 64 ≡ digits (2 ^ 8) (λ j. ones g (suc j)) 8
 unfolding digits ones

@@ -6,7 +6,7 @@ use mathlib.Core.Logic.{_⊎_, inl, inr}
 use mathlib.Core.List.{List}
 use mathlib.Core.Option.{some, none}
 use Prim.Native.Nat.{ℕ, zero, suc, _+_, _-_, _*_, _/_, _%_, _^_, _≤_, _<_, zero-le}
-use native.Mathlib.Nat.{le-refl, lt-suc-self, div-lt-iff-lt-mul, one-mul, zero-div, zero-mod}
+use native.Mathlib.Nat.{le-refl, lt-suc-self, div-lt-iff-lt-mul, one-mul}
 use native.Mathlib.Numerals.{one-add}
 use native.Mathlib.Decide.{ℕ-discrete}
 use native.Mathlib.Omega.{arith}
@@ -21,7 +21,7 @@ use Rattle.words.specs.Words.{selectIn}
 use Rattle.words.specs.Working.{Written, Matched, FirstFrom, LastBefore}
 use Rattle.words.proofs.BoolLaws.{and-intro, and-first, and-second}
 use Rattle.words.proofs.Sums.{lt-or, ones-suc, ones-mono, rank-one}
-use Rattle.words.proofs.BitLaws.{bit-le}
+use Rattle.words.proofs.BitLaws.{bit-le, zero-bit}
 use Rattle.words.proofs.WordLaws.{holds-yes, holds-no, word-bit}
 use Rattle.words.proofs.SearchLaws.{least-at, least-none, greatest-at, greatest-none, Place, placeIn-place, rank-ones}
 
@@ -144,10 +144,6 @@ zero-bits (suc k) x h z =
     let e : x / 2 ^ k < 1 = omega (arith, z k (lt-suc-self k)) in
     let low : x < 2 ^ k = subst (λ (m : ℕ). x < m) (one-mul (2 ^ k)) (div-lt-iff-lt-mul (pow-pos k) .0 e) in
     zero-bits k x low (λ p l. z p (omega arith))
-
--- 0 has no one
-zero-bit : (p : ℕ) → bit 0 p ≡ 0
-zero-bit p = ap (λ (n : ℕ). n % 2) (zero-div (2 ^ p)) ∙ zero-mod 2
 
 -- a word other than 0 has a one
 pub some-one : (x : ℕ) → x < 2 ^ 64 → (x ≡ 0 → ⊥) → 0 < ones (bit x) 64

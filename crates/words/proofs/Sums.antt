@@ -1,12 +1,14 @@
 -- The laws of `ones f n`, a sum over the positions below n, and of `listOf`. Assumes nothing.
 use mathlib.Core.Path.{_≡_, refl, sym, ap, ap₂, _∙_}
 use mathlib.Core.Logic.{_⊎_, inl, inr}
-use Prim.Native.Nat.{ℕ, zero, suc, _+_, _-_, _*_, _≤_, _<_, zero-le, suc-le-suc}
-use native.Mathlib.Nat.{add-zero, add-suc, lt-suc-self, add-sub-of-le, le-of-suc-le-suc, not-suc-le-zero}
+use mathlib.Core.List.{List}
+use Prim.Native.Nat.{ℕ, zero, suc, _+_, _-_, _*_, _≤_, _<_}
+use native.Mathlib.Nat.{add-zero, add-suc, mul-zero, suc-mul, lt-suc-self, add-sub-of-le, le-of-suc-le-suc, not-suc-le-zero}
 use native.Mathlib.Numerals.{add-one}
 use native.Mathlib.Decide.{decLt}
 use native.Mathlib.Omega.{arith}
-use lib.ListN.{length, getD}
+use lib.ListN.{length, getD, take, drop}
+use lib.Seq.{getD-take, getD-drop, ext-getD}
 use Rattle.words.specs.Bits.{ones, listOf}
 
 -- below, or not
@@ -49,11 +51,14 @@ ones-mono f {a} {b} h =
     let t : ones f (a + (b - a)) ≡ ones f b = ap (ones f) e in
     omega arith
 
--- terms of at most one: at most one for each position
+-- terms of at most c: at most c for each position
+pub ones-most : (f : ℕ → ℕ) (c n : ℕ) → ((p : ℕ) → f p ≤ c) → ones f n ≤ n * c
+ones-most f c zero h = omega (arith, ones-zero f)
+ones-most f c (suc n) h = omega (arith, ones-suc f n, ones-most f c n h, h n, suc-mul n c)
+
+-- of bits, at most as many as there are positions
 pub ones-le : (f : ℕ → ℕ) (n : ℕ) → ((p : ℕ) → f p ≤ 1) → ones f n ≤ n
-unfolding ones
-ones-le f zero h = zero-le
-ones-le f (suc n) h = omega (arith, ones-le f n h, h n)
+ones-le f n h = omega (arith, ones-most f 1 n h)
 
 -- the terms are all b
 pub ones-const : (f : ℕ → ℕ) (b n : ℕ) → ((p : ℕ) → p < n → f p ≡ b) → ones f n ≡ n * b
@@ -61,18 +66,39 @@ unfolding ones
 ones-const f b zero h = omega arith
 ones-const f b (suc n) h =
     let ih : ones f n ≡ n * b = ones-const f b n (λ p l. h p (omega arith)) in
-    ap₂ (λ (x y : ℕ). x + y) ih (h n (lt-suc-self n)) ∙ sym (native.Mathlib.Nat.suc-mul n b)
+    ap₂ (λ (x y : ℕ). x + y) ih (h n (lt-suc-self n)) ∙ sym (suc-mul n b)
+
+-- the terms are all 0
+pub ones-none : (f : ℕ → ℕ) (n : ℕ) → ((p : ℕ) → p < n → f p ≡ 0) → ones f n ≡ 0
+ones-none f n h = ones-const f 0 n h ∙ mul-zero n
+
+-- the terms from a on are 0: the sum stays
+pub ones-flat : (f : ℕ → ℕ) (a n : ℕ) → a ≤ n → ((p : ℕ) → a ≤ p → f p ≡ 0) → ones f n ≡ ones f a
+ones-flat f a n h past =
+    let e : a + (n - a) ≡ n = add-sub-of-le h in
+    let none : ones (λ p. f (a + p)) (n - a) ≡ 0 = ones-none (λ p. f (a + p)) (n - a) (λ p l. past (a + p) (omega arith)) in
+    omega (arith, none, ap (ones f) e, ones-split f a (n - a))
 
 -- f and g agree outside a to e - 1
-pub ones-outside : (f g : ℕ → ℕ) (a e n : ℕ) → a ≤ e → e ≤ n → ((p : ℕ) → p < a → f p ≡ g p) → ((p : ℕ) → e ≤ p → f p ≡ g p)
+pub ones-outside : (f g : ℕ → ℕ) (a e n : ℕ) → a ≤ e → e ≤ n → ((p : ℕ) → p < a → f p ≡ g p) → ((p : ℕ) → e ≤ p → p < n → f p ≡ g p)
     → (ones f n + ones g e ≡ ones g n + ones f e) × (ones f a ≡ ones g a)
 ones-outside f g a e n la le under over =
     let past : ones (λ p. f (e + p)) (n - e) ≡ ones (λ p. g (e + p)) (n - e) =
-    ones-ext (λ p. f (e + p)) (λ p. g (e + p)) (n - e) (λ p q. over (e + p) (omega arith)) in
+    ones-ext (λ p. f (e + p)) (λ p. g (e + p)) (n - e) (λ p q. over (e + p) (omega arith) (omega arith)) in
     let m : e + (n - e) ≡ n = add-sub-of-le le in
     let sf : ones f n ≡ ones f e + ones (λ p. f (e + p)) (n - e) = rw m at (ones-split f e (n - e)) in
     let sg : ones g n ≡ ones g e + ones (λ p. g (e + p)) (n - e) = rw m at (ones-split g e (n - e)) in
     (omega (arith, past, sf, sg), ones-ext f g a under)
+
+-- and f is b there: the terms of g from a to e - 1 go, and e - a times b come
+pub ones-range : (f g : ℕ → ℕ) (a e n b : ℕ) → a ≤ e → e ≤ n → ((p : ℕ) → p < a → f p ≡ g p) → ((p : ℕ) → a ≤ p → p < e → f p ≡ b)
+    → ((p : ℕ) → e ≤ p → p < n → f p ≡ g p) → ones f n + ones g e ≡ ones g n + (ones g a + (e - a) * b)
+ones-range f g a e n b la le under inside over =
+    let o = ones-outside f g a e n la le under over in
+    let m : a + (e - a) ≡ e = add-sub-of-le la in
+    let s : ones f e ≡ ones f a + ones (λ p. f (a + p)) (e - a) = rw m at (ones-split f a (e - a)) in
+    let c : ones (λ p. f (a + p)) (e - a) ≡ (e - a) * b = ones-const (λ p. f (a + p)) b (e - a) (λ p l. inside (a + p) (omega arith) (omega arith)) in
+    omega (arith, o .0, o .1, s, c)
 
 -- the sums before two different positions of 1 are not the same number
 pub rank-one : (f : ℕ → ℕ) (p q : ℕ) → f p ≡ 1 → p < q → ones f p < ones f q
@@ -94,3 +120,13 @@ unfolding listOf
 getD-listOf f zero p h = absurd (not-suc-le-zero h)
 getD-listOf f (suc n) zero h = refl
 getD-listOf f (suc n) (suc p) h = getD-listOf (λ i. f (suc i)) n p (le-of-suc-le-suc h)
+
+-- a list of n elements, each f of its place
+pub listOf-is : (f : ℕ → ℕ) (n : ℕ) (xs : List ℕ) → length xs ≡ n → ((p : ℕ) → p < n → f p ≡ getD xs p 0) → listOf f n ≡ xs
+listOf-is f n xs e each =
+    ext-getD 0 (listOf f n) xs (length-listOf f n ∙ sym e)
+    (λ p l. let q : p < n = rw (length-listOf f n) at l in getD-listOf f n p q ∙ each p q)
+
+-- element i of the n elements from a on
+pub part-at : {A : Type 0} (xs : List A) (a n : ℕ) (z : A) (i : ℕ) → i < n → getD (take n (drop a xs)) i z ≡ getD xs (a + i) z
+part-at xs a n z i h = getD-take n (drop a xs) i z h ∙ getD-drop a xs i z

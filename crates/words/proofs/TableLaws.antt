@@ -2,20 +2,20 @@
 -- Assumes nothing.
 use mathlib.Core.Path.{_≡_, refl, sym, ap, _∙_}
 use mathlib.Core.List.{List}
-use mathlib.Core.Bool.{Bool, true, false, _&&_}
+use mathlib.Core.Bool.{Bool, true, _&&_}
 use Prim.Native.Nat.{ℕ, zero, suc, _+_, _*_, _/_, _%_, _≤_, _<_, zero-le}
 use native.Mathlib.Nat.{le-of-suc-le-suc, not-suc-le-zero}
 use native.Mathlib.Omega.{arith}
 use lib.Arith.{lt-of-le-ne}
 use lib.Dec.{eqb}
 use borrow.Author.Tests.{eqb-true}
-use Rattle.words.proofs.BoolLaws.{and-first, and-second}
 use lib.ListN.{getD, take, drop}
-use lib.Seq.{getD-take, getD-drop}
 use Rattle.words.specs.Bits.{ones, digits, listOf}
 use Rattle.words.specs.Strip.{least}
 use Rattle.words.specs.Words.{byteOf, selectIn}
 use Rattle.words.specs.Working.{SelectBytes}
+use Rattle.words.proofs.BoolLaws.{and-first, and-second}
+use Rattle.words.proofs.Sums.{part-at}
 
 -- ---- the arms of a match on 0, 1, ..
 -- l is none of 0 to n - 1, as the last arm has it
@@ -63,7 +63,7 @@ unfolding agrees
 select-bytes i b r h e q k l =
     let place : 16 * i + b % 16 ≡ b = omega arith in
     let whole : getD (take 16 (drop (16 * i) table)) (b % 16) 0 ≡ getD table b 0 =
-    getD-take 16 (drop (16 * i) table) (b % 16) 0 (omega arith) ∙ getD-drop (16 * i) table (b % 16) 0 ∙ ap (λ (n : ℕ). getD table n 0) place in
+    part-at table (16 * i) 16 0 (b % 16) (omega arith) ∙ ap (λ (n : ℕ). getD table n 0) place in
     ap (λ (n : ℕ). byteOf n k) (q ∙ whole)
     ∙ eqb-true (byteOf (getD table b 0) k) (selectIn 8 b 1 k)
     (all-at (agrees table b) 8 (all-at (λ b. all (agrees table b) 8) 256 table-pass b h) k l)

@@ -1,20 +1,20 @@
 -- The laws of a written word, of the bits that hold a value, and of a list of words as one list of bits. Assumes nothing.
-use mathlib.Core.Path.{_≡_, refl, sym, ap, ap₂, _∙_, subst}
+use mathlib.Core.Path.{_≡_, sym, ap, ap₂, _∙_}
 use mathlib.Core.Bool.{cond}
 use mathlib.Core.Logic.{_⊎_, inl, inr}
 use mathlib.Core.List.{List}
-use Prim.Native.Nat.{ℕ, zero, suc, _+_, _-_, _*_, _/_, _%_, _^_, _≤_, _<_}
+use Prim.Native.Nat.{ℕ, _+_, _-_, _*_, _/_, _%_, _^_, _≤_, _<_}
 use native.Mathlib.Nat.{one-mul}
 use native.Mathlib.Omega.{arith}
 use lib.Dec.{eqb}
-use lib.ListN.{getD}
+use lib.ListN.{length, getD, take, drop, List·getD-eq-default}
 use lib.Bits.{bitAnd, bitOr, bitXor, differ}
 use borrow.Author.Tests.{eq-eqb, ne-eqb}
 use Rattle.words.specs.Bits.{bit, bitAt, ones}
 use Rattle.words.specs.Strip.{holds}
 use Rattle.words.specs.Working.{Written, Matched}
-use Rattle.words.proofs.Sums.{lt-or, ones-more, ones-split, ones-ext, ones-const, ones-outside, part-ones}
-use Rattle.words.proofs.BitLaws.{bit-lt, bit-le, bit-xor, bit-and, bit-or, bit-not, bit-high, differ-one, differ-zero, mask, mask-in, mask-below, mask-above, mask-lt}
+use Rattle.words.proofs.Sums.{lt-or, ones-more, ones-range, part-ones, part-at}
+use Rattle.words.proofs.BitLaws.{bit-lt, bit-le, zero-bit, bit-xor, bit-and, bit-or, bit-not, bit-high, differ-one, differ-zero, mask, mask-in, mask-below, mask-above, mask-lt}
 
 -- ---- bits that hold a value
 pub holds-yes : (f : ℕ → ℕ) (v p : ℕ) → f p ≡ v → holds f v p ≡ 1
@@ -98,11 +98,7 @@ written-flip x i =
 pub written-ones : (x a e b r n : ℕ) → Written x a e b r → a ≤ e → e ≤ n
     → ones (bit r) n + ones (bit x) e ≡ ones (bit x) n + (ones (bit x) a + (e - a) * b)
 written-ones x a e b r n w la le =
-    let o = ones-outside (bit r) (bit x) a e n la le (w .under) (w .over) in
-    let m : a + (e - a) ≡ e = omega arith in
-    let s : ones (bit r) e ≡ ones (bit r) a + ones (λ p. bit r (a + p)) (e - a) = rw m at (ones-split (bit r) a (e - a)) in
-    let c : ones (λ p. bit r (a + p)) (e - a) ≡ (e - a) * b = ones-const (λ p. bit r (a + p)) b (e - a) (λ p l. w .inside (a + p) (omega arith) (omega arith)) in
-    omega (arith, o .0, o .1, s, c)
+    ones-range (bit r) (bit x) a e n b la le (w .under) (w .inside) (λ p l u. w .over p l)
 
 -- one bit: the ones move by the new bit and the old
 pub written-one : (x i b r n : ℕ) → Written x i (i + 1) b r → i < n → ones (bit r) n + bit x i ≡ ones (bit x) n + b
@@ -133,3 +129,17 @@ word-ones ws j i h = part-ones (bitAt ws) (bit (getD ws j 0)) (64 * j) 64 i (λ 
 
 pub bitAt-le : (ws : List ℕ) (p : ℕ) → bitAt ws p ≤ 1
 bitAt-le ws p = bit-le (getD ws (p / 64) 0) (p % 64)
+
+-- no position past the words is set
+pub bitAt-past : (ws : List ℕ) (p : ℕ) → 64 * length ws ≤ p → bitAt ws p ≡ 0
+bitAt-past ws p h = ap (λ (w : ℕ). bit w (p % 64)) (List·getD-eq-default ws 0 {n = p / 64} (omega arith)) ∙ zero-bit (p % 64)
+
+-- position p of the n words from word k on
+pub part-bit : (ws : List ℕ) (k n p : ℕ) → p < 64 * n → bitAt (take n (drop k ws)) p ≡ bitAt ws (64 * k + p)
+part-bit ws k n p h =
+    ap (λ (w : ℕ). bit w (p % 64)) (part-at ws k n 0 (p / 64) (omega arith))
+    ∙ ap₂ (λ (a b : ℕ). bit (getD ws a 0) b) (omega arith) (omega arith)
+
+-- position p of block b, whose words are eight
+pub block-bit : (ws : List ℕ) (b n p : ℕ) → n ≡ 8 → p < 512 → bitAt (take n (drop (8 * b) ws)) p ≡ bitAt ws (512 * b + p)
+block-bit ws b n p e h = part-bit ws (8 * b) n p (omega arith) ∙ ap (bitAt ws) (omega arith)

@@ -1,21 +1,20 @@
 -- `counters::change::fill` meets its contract. Assumes nothing.
-use mathlib.Core.Path.{_≡_, sym, ap, _∙_, subst}
+use mathlib.Core.Path.{_≡_, ap, _∙_}
 use mathlib.Core.List.{[], _∷_}
 use mathlib.Core.Option.{none}
-use Prim.Native.Nat.{ℕ, _*_, _/_, _≤_, _<_}
+use Prim.Native.Nat.{_*_, _/_, _≤_}
 use native.Mathlib.Omega.{arith}
 use borrow.Author.Needs.{needs}
-use lib.Dec.{leb, ltb}
+use lib.Dec.{ltb}
 use lib.ListN.{length}
-use borrow.Author.Tests.{leb-false, ltb-false}
-use Rattle.words.specs.declared.handle.Handle.{Handle}
+use borrow.Author.Tests.{ltb-false}
 use Rattle.words.specs.Bits.{bitAt, ones}
 use Rattle.words.specs.Refusals.{_⇒_, judge}
 use Rattle.words.specs.Calls.{valueLine, withinLine}
-use Rattle.words.proofs.CheckLaws.{judged-pass, passed-both, passes, Passes, unless-refused, unless-passed}
-use Rattle.counters.specs.Promises.{done, Outcome, MovedTold, outcome, stays}
-use Rattle.counters.specs.Calls.{checks, fillTable}
-use Rattle.counters.proofs.PromiseLaws.{Sizes, sizes-of, fill-done}
+use Rattle.words.proofs.CheckLaws.{judged-pass, Passes, unless-refused, unless-passed}
+use Rattle.counters.specs.Promises.{stays}
+use Rattle.counters.specs.Calls.{fillTable}
+use Rattle.counters.proofs.PromiseLaws.{Sizes, sizes-of, lines-of, fill-done}
 use Rattle.counters.proofs.change.fill.Statement.{statement}
 use Rattle.counters.proofs.change.fill.Tie as tie
 
@@ -49,7 +48,7 @@ known c =
 own : (c : tie.After-enum-told) → Passes (valueLine (c .before .before .before .before .before .args .v) ∷ (ltb (c .before .before .before .before .before .args .b) (c .before .before .before .before .before .args .a) ⇒ 5) ∷ withinLine (c .before .before .before .before .before .args .h) (c .before .before .before .before .before .args .b) ∷ [])
 own c =
     let a = c .before .before .before .before .before .args in
-    passes (valueLine (a .v) ∷ (ltb (a .b) (a .a) ⇒ 5) ∷ withinLine (a .h) (a .b) ∷ []) (passed-both (checks (a .h) (length (a .words .now)) (length (a .counters .now))) (valueLine (a .v) ∷ (ltb (a .b) (a .a) ⇒ 5) ∷ withinLine (a .h) (a .b) ∷ []) (passed c) .1)
+    lines-of (a .h) (a .words .now) (a .counters .now) (valueLine (a .v) ∷ (ltb (a .b) (a .a) ⇒ 5) ∷ withinLine (a .h) (a .b) ∷ []) (passed c)
 
 -- v is 0 or 1, and a ≤ b ≤ length
 fine : (c : tie.After-enum-told) → c .before .before .before .before .before .args .v ≤ 1

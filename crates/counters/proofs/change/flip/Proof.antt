@@ -7,15 +7,15 @@ use Prim.Native.Nat.{ℕ, _-_, _^_, _<_}
 use native.Mathlib.Omega.{arith}
 use borrow.Author.Needs.{needs}
 use lib.Dec.{eqb}
-use lib.ListN.{length, getD}
+use lib.ListN.{length}
 use borrow.Author.Tests.{leb-false}
 use Rattle.words.specs.Bits.{bitAt}
 use Rattle.words.specs.Refusals.{judge}
 use Rattle.words.specs.Calls.{belowLine}
-use Rattle.words.proofs.CheckLaws.{judged-pass, passed-both, passes}
+use Rattle.words.proofs.CheckLaws.{judged-pass}
 use Rattle.counters.specs.Promises.{done, outcome, stays}
-use Rattle.counters.specs.Calls.{checks, flipTable, Flipped}
-use Rattle.counters.proofs.PromiseLaws.{promise-refused, Sizes, sizes-of, flip-done}
+use Rattle.counters.specs.Calls.{flipTable, Flipped}
+use Rattle.counters.proofs.PromiseLaws.{promise-refused, Sizes, sizes-of, lines-of, flip-done}
 use Rattle.counters.proofs.change.flip.Statement.{statement}
 use Rattle.counters.proofs.change.flip.Tie as tie
 
@@ -48,9 +48,7 @@ known c =
 below : (c : tie.After-enum-told) → c .before .before .before .before .before .args .i < c .before .before .before .before .before .args .h .length
 below c =
     let a = c .before .before .before .before .before .args in
-    leb-false _ _
-    (passes (belowLine (a .h) (a .i) ∷ [])
-    (passed-both (checks (a .h) (length (a .words .now)) (length (a .counters .now))) (belowLine (a .h) (a .i) ∷ []) (passed c) .1) .0)
+    leb-false _ _ (lines-of (a .h) (a .words .now) (a .counters .now) (belowLine (a .h) (a .i) ∷ []) (passed c) .0)
 
 flip-position-requires : tie.Need-flip-position-requires
 flip-position-requires c κs = let z = known (c .before) in omega (arith, below (c .before), z .words, z .step, z .long)

@@ -1,20 +1,20 @@
 -- `counters::change::push` meets its contract. Assumes nothing.
-use mathlib.Core.Path.{_≡_, sym, ap, _∙_, subst}
+use mathlib.Core.Path.{_≡_, sym, subst}
 use mathlib.Core.List.{[], _∷_}
 use mathlib.Core.Option.{none}
 use Prim.Native.Nat.{ℕ, _+_, _≤_, _<_}
 use native.Mathlib.Omega.{arith}
 use borrow.Author.Needs.{needs}
-use lib.Dec.{leb, ltb}
+use lib.Dec.{leb}
 use lib.ListN.{length}
 use borrow.Author.Tests.{leb-false, ltb-false}
 use Rattle.words.specs.declared.handle.Handle.{Handle}
 use Rattle.words.specs.Refusals.{_⇒_, judge}
 use Rattle.words.specs.Calls.{valueLine}
-use Rattle.words.proofs.CheckLaws.{judged-pass, passed-both, passes, Passes}
+use Rattle.words.proofs.CheckLaws.{judged-pass, Passes}
 use Rattle.counters.specs.Promises.{done, Outcome, MovedTold, outcome, stays}
-use Rattle.counters.specs.Calls.{checks, pushTable, Pushed}
-use Rattle.counters.proofs.PromiseLaws.{promise-refused, Sizes, sizes-of, push-zero, push-one}
+use Rattle.counters.specs.Calls.{pushTable, Pushed}
+use Rattle.counters.proofs.PromiseLaws.{promise-refused, Sizes, sizes-of, lines-of, push-zero, push-one}
 use Rattle.counters.proofs.change.push.Statement.{statement}
 use Rattle.counters.proofs.change.push.Tie as tie
 
@@ -48,7 +48,7 @@ known c =
 own : (c : tie.After-enum-told) → Passes (valueLine (c .before .before .before .before .before .args .v) ∷ (leb (c .before .before .before .before .before .args .h .capacity) (c .before .before .before .before .before .args .h .length) ⇒ 7) ∷ [])
 own c =
     let a = c .before .before .before .before .before .args in
-    passes (valueLine (a .v) ∷ (leb (a .h .capacity) (a .h .length) ⇒ 7) ∷ []) (passed-both (checks (a .h) (length (a .words .now)) (length (a .counters .now))) (valueLine (a .v) ∷ (leb (a .h .capacity) (a .h .length) ⇒ 7) ∷ []) (passed c) .1)
+    lines-of (a .h) (a .words .now) (a .counters .now) (valueLine (a .v) ∷ (leb (a .h .capacity) (a .h .length) ⇒ 7) ∷ []) (passed c)
 
 room : (c : tie.After-enum-told)
     → c .before .before .before .before .before .args .h .length < c .before .before .before .before .before .args .h .capacity

@@ -1,21 +1,20 @@
 -- `counters::change::truncate` meets its contract. Assumes nothing.
-use mathlib.Core.Path.{_≡_, sym, ap, _∙_, subst}
+use mathlib.Core.Path.{_≡_, ap, _∙_}
 use mathlib.Core.List.{[], _∷_}
 use mathlib.Core.Option.{none}
-use Prim.Native.Nat.{ℕ, _*_, _/_, _≤_, _<_}
+use Prim.Native.Nat.{_*_, _/_, _≤_}
 use native.Mathlib.Omega.{arith}
 use borrow.Author.Needs.{needs}
-use lib.Dec.{leb, ltb}
 use lib.ListN.{length}
-use borrow.Author.Tests.{leb-false, ltb-false}
+use borrow.Author.Tests.{ltb-false}
 use Rattle.words.specs.declared.handle.Handle.{Handle}
 use Rattle.words.specs.Bits.{bitAt, ones}
-use Rattle.words.specs.Refusals.{_⇒_, judge}
+use Rattle.words.specs.Refusals.{judge}
 use Rattle.words.specs.Calls.{withinLine}
-use Rattle.words.proofs.CheckLaws.{judged-pass, passed-both, passes, Passes, unless-refused, unless-passed}
-use Rattle.counters.specs.Promises.{done, Outcome, MovedTold, outcome, stays}
-use Rattle.counters.specs.Calls.{checks, truncateTable}
-use Rattle.counters.proofs.PromiseLaws.{Sizes, sizes-of, truncate-done}
+use Rattle.words.proofs.CheckLaws.{judged-pass, Passes, unless-refused, unless-passed}
+use Rattle.counters.specs.Promises.{done, outcome, stays}
+use Rattle.counters.specs.Calls.{truncateTable}
+use Rattle.counters.proofs.PromiseLaws.{Sizes, sizes-of, lines-of, truncate-done}
 use Rattle.counters.proofs.change.truncate.Statement.{statement}
 use Rattle.counters.proofs.change.truncate.Tie as tie
 
@@ -49,7 +48,7 @@ known c =
 own : (c : tie.After-enum-told) → Passes (withinLine (c .before .before .before .before .before .args .h) (c .before .before .before .before .before .args .n) ∷ [])
 own c =
     let a = c .before .before .before .before .before .args in
-    passes (withinLine (a .h) (a .n) ∷ []) (passed-both (checks (a .h) (length (a .words .now)) (length (a .counters .now))) (withinLine (a .h) (a .n) ∷ []) (passed c) .1)
+    lines-of (a .h) (a .words .now) (a .counters .now) (withinLine (a .h) (a .n) ∷ []) (passed c)
 
 within : (c : tie.After-enum-told) → c .before .before .before .before .before .args .n ≤ c .before .before .before .before .before .args .h .length
 within c = ltb-false (c .before .before .before .before .before .args .h .length) (c .before .before .before .before .before .args .n) (own c .0)

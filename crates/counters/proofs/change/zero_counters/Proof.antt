@@ -1,23 +1,20 @@
 -- `counters::change::zero_counters` meets its contract. The invariant: the counters passed are 0, the others as they were. Assumes nothing.
-use mathlib.Core.Path.{_≡_, refl, ap, _∙_}
-use mathlib.Core.List.{List, _++_, append-nil}
-use Prim.Native.Nat.{ℕ, _-_, _≤_, zero-le}
+use Prim.Native.Nat.{_-_}
 use native.Mathlib.Omega.{arith}
 use borrow.Author.Needs.{needs}
-use borrow.Author.Fill.{fill-none, fill-more}
-use lib.ListN.{length, set, drop, replicate, length-set}
-use lib.Seq.{drop-length}
+use lib.ListN.{length}
+use Rattle.words.proofs.FillLaws.{Zeroed, zeroed-none, zeroed-more, zeroed-done}
 use Rattle.counters.proofs.change.zero_counters.Statement.{statement}
 use Rattle.counters.proofs.change.zero_counters.Tie as tie
 
 abbrev Inv-loop : tie.InvT-loop
-Inv-loop counters₀ k₀ counters k = (k ≤ length counters₀) × (length counters ≡ length counters₀) × (counters ≡ replicate k 0 ++ drop k counters₀)
+Inv-loop counters₀ k₀ counters k = Zeroed counters₀ counters k
 
 abbrev μ-loop : tie.MeasureT-loop
 μ-loop counters₀ k₀ counters k = length counters₀ - k
 
 loop-holds : tie.Need-loop-holds Inv-loop μ-loop
-loop-holds c = (zero-le, refl, fill-none (c .args .counters .now) 0)
+loop-holds c = zeroed-none (c .args .counters .now)
 
 mul-counters : tie.Need-mul-counters Inv-loop μ-loop
 mul-counters c = search needs
@@ -33,23 +30,16 @@ loop-less c = omega arith
 
 loop-again : tie.Need-loop-again Inv-loop μ-loop
 loop-again c =
-    let d = c .before .before .args .counters .now in
-    let ws = c .before .loop .counters in
-    let k : ℕ = c .before .loop .k in
-    (omega arith, length-set ws k 0 ∙ c .before .loop .inv .1, ap (λ (l : List ℕ). set l k 0) (c .before .loop .inv .2) ∙ fill-more k 0 d (omega arith))
+    let l = c .before .loop in
+    zeroed-more (c .before .before .args .counters .now) (l .counters) (l .k) (l .inv) (omega arith)
 
 same-length : tie.Need-same-length Inv-loop μ-loop
 same-length c = search needs
 
 returns : tie.Need-returns Inv-loop μ-loop
 returns c =
-    let d = c .before .before .args .counters .now in
-    let k : ℕ = c .before .loop .k in
-    let e : k ≡ length d = omega arith in
-    c .before .loop .inv .2
-    ∙ ap (λ (n : ℕ). replicate n 0 ++ drop n d) e
-    ∙ ap (λ (l : List ℕ). replicate (length d) 0 ++ l) (drop-length d)
-    ∙ append-nil (replicate (length d) 0)
+    let l = c .before .loop in
+    zeroed-done (c .before .before .args .counters .now) (l .counters) (l .k) (l .inv) (omega arith)
 
 pub zero-counters-spec : {M : Type 1} → statement M
 zero-counters-spec =

@@ -4,7 +4,8 @@ use Prim.Native.Nat.{ℕ, _+_, _-_, _*_, _/_, _≤_}
 use native.Mathlib.Omega.{arith}
 use borrow.Author.Needs.{needs}
 use lib.ListN.{length}
-use Rattle.counters.proofs.RaiseLaws.{part-length, Climb, Next, climb-none, climb-next, climb-more, climb-done}
+use Rattle.counters.proofs.SpliceLaws.{part-length}
+use Rattle.counters.proofs.RaiseLaws.{Climb, Next, climb-none, climb-next, climb-more, climb-done}
 use Rattle.counters.proofs.raise.raise_path.Statement.{statement}
 use Rattle.counters.proofs.raise.raise_path.Tie as tie
 
@@ -63,7 +64,7 @@ raise-node-requires : tie.Need-raise-node-requires Inv-loop μ-loop
 raise-node-requires c κs =
     let l = c .before .before .loop in
     let a : ℕ = l .end - 72 * ((l .count + 63) / 64) + 72 * (l .child / 64) in
-    (part-length a (a + 72 - a) (l .counters) (omega (arith, turn (c .before))) ∙ omega arith, omega arith)
+    (part-length (l .counters) a (a + 72 - a) (omega (arith, turn (c .before))) ∙ omega arith, omega arith)
 
 sub-number : tie.Need-sub-number Inv-loop μ-loop
 sub-number c = omega arith

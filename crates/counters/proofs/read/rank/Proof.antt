@@ -1,17 +1,17 @@
 -- `counters::read::rank` meets its contract. Assumes nothing.
-use mathlib.Core.Path.{_≡_, sym, ap, _∙_}
+use mathlib.Core.Path.{_≡_}
 use mathlib.Core.List.{[], _∷_}
 use mathlib.Core.Option.{none}
-use Prim.Native.Nat.{ℕ, _*_, _/_, _≤_, _<_}
+use Prim.Native.Nat.{_≤_}
 use native.Mathlib.Omega.{arith}
 use borrow.Author.Needs.{needs}
 use lib.ListN.{length}
 use borrow.Author.Tests.{ltb-false}
 use Rattle.words.specs.Refusals.{judge, refused}
 use Rattle.words.specs.Calls.{valueLine, withinLine}
-use Rattle.words.proofs.CheckLaws.{judged-pass, passed-both, passes, Passes}
-use Rattle.counters.specs.Calls.{checks, rankTable}
-use Rattle.counters.proofs.PromiseLaws.{promise-refused, Sizes, sizes-of}
+use Rattle.words.proofs.CheckLaws.{judged-pass, Passes}
+use Rattle.counters.specs.Calls.{rankTable}
+use Rattle.counters.proofs.PromiseLaws.{promise-refused, Sizes, sizes-of, lines-of}
 use Rattle.counters.proofs.ReadLaws.{rank-done, rank-unfit}
 use Rattle.counters.proofs.read.rank.Statement.{statement}
 use Rattle.counters.proofs.read.rank.Tie as tie
@@ -46,7 +46,7 @@ known c =
 own : (c : tie.After-enum-told) → Passes (valueLine (c .before .before .before .before .before .args .v) ∷ withinLine (c .before .before .before .before .before .args .h) (c .before .before .before .before .before .args .i) ∷ [])
 own c =
     let a = c .before .before .before .before .before .args in
-    passes (valueLine (a .v) ∷ withinLine (a .h) (a .i) ∷ []) (passed-both (checks (a .h) (length (a .words .now)) (length (a .counters .now))) (valueLine (a .v) ∷ withinLine (a .h) (a .i) ∷ []) (passed c) .1)
+    lines-of (a .h) (a .words .now) (a .counters .now) (valueLine (a .v) ∷ withinLine (a .h) (a .i) ∷ []) (passed c)
 
 -- v is 0 or 1
 fine : (c : tie.After-enum-told) → c .before .before .before .before .before .args .v ≤ 1

@@ -1,9 +1,9 @@
 -- `counters::read::verify` meets its contract. Assumes nothing.
-use mathlib.Core.Path.{_≡_, sym, ap, _∙_, subst}
-use mathlib.Core.Bool.{Bool, true, false}
+use mathlib.Core.Path.{_≡_, ap, _∙_, subst}
+use mathlib.Core.Bool.{Bool}
 use mathlib.Core.Logic.{_⊎_, inl, inr}
 use mathlib.Core.Option.{none}
-use Prim.Native.Nat.{ℕ, _*_, _/_, _≤_, _<_}
+use Prim.Native.Nat.{_*_, _≤_, _<_}
 use native.Mathlib.Omega.{arith}
 use borrow.Author.Needs.{needs}
 use borrow.Author.Tests.{not-true, not-false}
@@ -11,14 +11,12 @@ use lib.ListN.{length}
 use Rattle.words.specs.Bits.{bitAt, ones}
 use Rattle.words.specs.Strip.{PastZero}
 use Rattle.words.specs.Refusals.{judge}
-use Rattle.words.proofs.Sums.{lt-or}
-use Rattle.words.proofs.WordLaws.{bitAt-le}
+use Rattle.words.proofs.Sums.{lt-or, ones-flat}
+use Rattle.words.proofs.WordLaws.{bitAt-le, bitAt-past}
 use Rattle.words.proofs.CheckLaws.{judged-pass}
 use Rattle.counters.specs.Tree.{blocksOf}
-use Rattle.counters.specs.Record.{Fits}
 use Rattle.counters.specs.Working.{AllFit, Decides}
 use Rattle.counters.specs.Calls.{checks}
-use Rattle.counters.proofs.ChangeLaws.{bitAt-past, ones-clean}
 use Rattle.counters.proofs.PromiseLaws.{Sizes, sizes}
 use Rattle.counters.proofs.ReadLaws.{verify-refused, verify-unfit, verify-fits}
 use Rattle.counters.proofs.read.verify.Statement.{statement}
@@ -116,7 +114,7 @@ returns-4 c =
     let whole : 512 * blocksOf (a .h .capacity) ≡ a .h .capacity = omega (arith, z .step) in
     verify-fits (a .h) (a .words .now) (a .counters .now) (c .ones-held .result) (passed e) (record { clean = clean s; right = right })
     (c .ones-held .ensures .1 (bitAt (a .words .now)) right (λ p l. clean s p (omega (arith, whole, z .long)))
-    ∙ ap (ones (bitAt (a .words .now))) whole ∙ ones-clean (bitAt (a .words .now)) (a .h .length) (a .h .capacity) (z .long) (clean s))
+    ∙ ap (ones (bitAt (a .words .now))) whole ∙ ones-flat (bitAt (a .words .now)) (a .h .length) (a .h .capacity) (z .long) (clean s))
 
 pub verify-spec : {M : Type 1} → statement M
 verify-spec =

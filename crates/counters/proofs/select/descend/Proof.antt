@@ -35,7 +35,7 @@ room c =
     let s = c .before .before .before .before in
     let l = c .before .loop in (
       way-end (s .args .blocks) (s .args .v) (s .args .k) (s .args .counters .now) (l .t) (l .count) (l .start) (l .index) (l .left) (c .loop-test .taken) (l .inv) .1,
-      omega (arith, l .inv .many, nodes-le (s .args .blocks) (l .t) (s .pre .1), s .pre .2),
+      omega (arith, l .inv .place .counted, nodes-le (s .args .blocks) (l .t) (s .pre .1), s .pre .2),
     )
 
 -- at most three levels
@@ -106,10 +106,13 @@ loop-again c =
     let l = n .before .before .before .before .loop in
     record {
       level = omega (arith, l .inv .level);
-      many = n .nodes-of .ensures;
       place =
-          way-end (s .args .blocks) (s .args .v) (s .args .k) (s .args .counters .now) (l .t) (l .count) (l .start) (l .index) (l .left)
-          (n .before .before .before .loop-test .taken) (l .inv) .0;
+          record {
+            counted = n .nodes-of .ensures;
+            starts =
+                way-end (s .args .blocks) (s .args .v) (s .args .k) (s .args .counters .now) (l .t) (l .count) (l .start) (l .index) (l .left)
+                (n .before .before .before .loop-test .taken) (l .inv) .0;
+          };
       there = c .if1 .left;
       leads = found n;
     }
@@ -120,7 +123,7 @@ returns-2 c f bits fit h =
     let l = c .before .loop in
     let z : l .t ≡ 0 = omega arith in
     let one : suc (l .t) ≡ 1 = omega arith in (
-      omega (arith, l .inv .there, l .inv .many, ap (nodes (s .blocks)) z, nodes-zero (s .blocks)),
+      omega (arith, l .inv .there, l .inv .place .counted, ap (nodes (s .blocks)) z, nodes-zero (s .blocks)),
       subst (λ (t : ℕ). Lies (valuesBefore f (s .v) t) (s .k) (l .index) (l .left)) one (l .inv .leads f bits fit h),
     )
 

@@ -3,7 +3,8 @@ use mathlib.Core.Path.{ap₂, _∙_}
 use Prim.Native.Nat.{ℕ, _+_}
 use native.Mathlib.Omega.{arith}
 use borrow.Author.Needs.{needs}
-use Rattle.counters.proofs.SelectionLaws.{root-there, root-ones}
+use Rattle.counters.proofs.TreeLaws.{root-there}
+use Rattle.counters.proofs.FitLaws.{root-ones}
 use Rattle.counters.proofs.select.ones_held.Statement.{statement}
 use Rattle.counters.proofs.select.ones_held.Tie as tie
 

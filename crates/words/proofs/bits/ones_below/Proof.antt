@@ -1,10 +1,10 @@
 -- `words::bits::ones_below` meets its contract. Assumes nothing.
-use mathlib.Core.Path.{_≡_, ap, _∙_}
-use Prim.Native.Nat.{ℕ, _-_, _%_, _^_}
-use lib.Bits.{bitAnd, and-mask}
+use mathlib.Core.Path.{ap, _∙_}
+use Prim.Native.Nat.{ℕ}
+use lib.Bits.{bitAnd}
 use borrow.Author.Needs.{needs}
 use Rattle.words.specs.Bits.{bit, ones}
-use Rattle.words.proofs.BitLaws.{ones-mod}
+use Rattle.words.proofs.BitLaws.{masked-ones}
 use Rattle.words.proofs.bits.ones_below.Statement.{statement}
 use Rattle.words.proofs.bits.ones_below.Tie as tie
 
@@ -19,8 +19,7 @@ returns c =
     let a = c .before .before .args in
     let x : ℕ = a .x in
     let i : ℕ = a .i in
-    let m : bitAnd x (c .before .low-mask .result) ≡ x % 2 ^ i = ap (bitAnd x) (c .before .low-mask .ensures) ∙ and-mask x i in
-    c .ones-of .ensures ∙ ap (λ (n : ℕ). ones (bit n) 64) m ∙ ones-mod x i 64 (c .before .before .pre)
+    c .ones-of .ensures ∙ ap (λ (m : ℕ). ones (bit (bitAnd x m)) 64) (c .before .low-mask .ensures) ∙ masked-ones x i (c .before .before .pre)
 
 pub ones-below-spec : {M : Type 1} → statement M
 ones-below-spec = tie.close (tie.spec low-mask-requires ones-of-requires returns)
