@@ -1,17 +1,37 @@
-/* Reads one stroke strip by the proved calls: look, next and prior, and what they refuse. */
+/* Keeps one stroke strip by the proved calls: lay, add, turn, count, find, look, next and prior, and what they refuse. */
 #include "testing.h"
 
 #include <inttypes.h>
 #include <stdio.h>
 
-enum { CAPACITY = 512, LENGTH = 17, WORDS = CAPACITY / 64 };
+enum { CAPACITY = 512, WORDS = CAPACITY / 64, COUNTERS = 72 };
 
-static const char strokes[] = "01101101010101110";
+/* The record, the length of its strip, and the five numbers that a change writes. */
 static uint64_t words[WORDS];
+static uint32_t counters[COUNTERS];
+static size_t length;
+static uint64_t out[5];
 
-static uint64_t look(size_t i) { return strip_get(CAPACITY, LENGTH, words, WORDS, i); }
-static uint64_t next(uint64_t v, size_t i) { return strip_successor(CAPACITY, LENGTH, words, WORDS, v, i); }
-static uint64_t prior(uint64_t v, size_t i) { return strip_predecessor(CAPACITY, LENGTH, words, WORDS, v, i); }
+#define RECORD words, WORDS, counters, COUNTERS
+
+/* What a change answers: its first value, or 2^32 plus the refusal's number. */
+static uint64_t changed(void)
+{
+    if (out[0] != 0)
+        return (UINT64_C(1) << 32) + out[0];
+    length = out[4];
+    return out[1];
+}
+
+static uint64_t lay(size_t capacity) { strip_create(capacity, RECORD, out, 5); return changed(); }
+static uint64_t add(uint64_t v) { strip_push(CAPACITY, length, RECORD, v, out, 5); return changed(); }
+static uint64_t turn(size_t i) { strip_flip(CAPACITY, length, RECORD, i, out, 5); return changed(); }
+static uint64_t count(uint64_t v, size_t i) { return strip_rank(CAPACITY, length, RECORD, v, i); }
+static uint64_t find(uint64_t v, size_t k) { return strip_select(CAPACITY, length, RECORD, v, k); }
+static uint64_t check(void) { return strip_verify(CAPACITY, length, RECORD); }
+static uint64_t look(size_t i) { return strip_get(CAPACITY, length, words, WORDS, i); }
+static uint64_t next(uint64_t v, size_t i) { return strip_successor(CAPACITY, length, words, WORDS, v, i); }
+static uint64_t prior(uint64_t v, size_t i) { return strip_predecessor(CAPACITY, length, words, WORDS, v, i); }
 
 /* One line: the call, its answer or its refusal, and what is asked in plain words. */
 static void show(const char *call, uint64_t answer, const char *meaning)
@@ -28,35 +48,36 @@ static void show(const char *call, uint64_t answer, const char *meaning)
 
 int main(void)
 {
-    for (size_t p = 0; p < LENGTH; p++)
-        if (strokes[p] == '1')
-            words[p / 64] |= UINT64_C(1) << p % 64;
-
-    printf("A strip of %d strokes, read left to right from 0: 1 is a misfire, 0 a good firing.\n\n", LENGTH);
-    printf("  stroke  ");
-    for (size_t p = 0; p < LENGTH; p++)
+    printf("A strip of strokes, added one by one: 1 is a misfire, 0 a good firing.\n\n");
+    lay(CAPACITY);
+    for (const char *stroke = "01101101010101110"; *stroke != '\0'; stroke++)
+        add(*stroke == '1');
+    printf("  stroke");
+    for (size_t p = 0; p < length; p++)
         printf("%3zu", p);
-    printf("\n  bit     ");
-    for (size_t p = 0; p < LENGTH; p++)
+    printf("\n  bit   ");
+    for (size_t p = 0; p < length; p++)
         printf("%3" PRIu64, look(p));
-    printf("\n  misfires");
-    for (uint64_t p = next(1, 0); p < LENGTH; p = next(1, p + 1))
-        printf(" %" PRIu64, p);
-    printf("   (found by next)\n\n");
-
-    SHOW(look(5), "did stroke 5 misfire?");
-    SHOW(look(16), "and stroke 16?");
+    printf("\n\n");
+    SHOW(count(1, 8), "misfires in the first 8 strokes, 0 to 7");
+    SHOW(find(1, 7), "the misfire with 7 before it");
     SHOW(next(1, 8), "the first misfire at or past stroke 8");
-    SHOW(next(0, 13), "the first good firing at or past stroke 13");
     SHOW(prior(1, 13), "the last misfire before stroke 13; 13 itself is not counted in");
-    SHOW(prior(0, 16), "the last good firing before stroke 16");
+
+    printf("\nStrokes judged anew later:\n\n");
+    SHOW(turn(3), "stroke 3 was a misfire after all: its bit is now 1");
+    printf("  %-14s %-10" PRIu64 " %s\n", "", out[2], "so many counters moved with it, each by one");
+    SHOW(turn(6), "and so was stroke 6");
+    SHOW(count(1, 8), "misfires in the first 8 strokes now");
+    SHOW(find(1, 7), "the misfire with 7 before it now");
+    SHOW(check(), "the record fits, and holds so many misfires");
 
     printf("\nA call that can't be answered is refused, and says why:\n\n");
-    SHOW(look(17), "there is no stroke 17");
-    SHOW(next(1, 16), "no misfire from stroke 16 on");
-    SHOW(prior(1, 1), "no misfire before stroke 1");
-    SHOW(next(2, 99), "a stroke is 0 or 1; said before 4, though 99 is too far as well");
-    show("look(5)", strip_get(CAPACITY, LENGTH, words, WORDS - 1, 5), "with one word too few lent");
-    show("look(5)", strip_get(500, LENGTH, words, WORDS, 5), "with a capacity of 500, not a multiple of 512");
+    SHOW(count(1, 18), "there are 17 strokes");
+    SHOW(find(1, 12), "there are 12 misfires, the first with 0 before it");
+    SHOW(add(2), "a stroke is 0 or 1");
+    SHOW(lay(500), "500 is not a multiple of 512");
+    counters[9]++;
+    SHOW(check(), "one counter was changed from outside");
     return 0;
 }

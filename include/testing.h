@@ -1,15 +1,22 @@
-/* The proved calls on a strip's words, as in target/staticlib/libtesting.a.
+/* The proved calls on a strip, as in target/staticlib/libtesting.a.
  *
  * A strip is `length` bits, position 0 first; 1 is a misfire, 0 a good firing. Position p is bit p % 64 of
- * words[p / 64]; bit 0 has weight 1. `count` is the number of words lent, capacity / 64. The bits past the length are
- * ignored, and nothing is written.
+ * words[p / 64]; bit 0 has weight 1. Words number capacity / 64. A record is the words with the counters over them, as
+ * many as strip_create answers: 72 for a capacity up to 32,768, 299,592 for the largest. A handle is a capacity and a
+ * length.
  *
- * The calls that answer a uint64_t refuse by 2^32 plus a number. In order:
+ * Each call checks what it is given, in the order named with it, and refuses by a number:
  *   1  capacity not a multiple of 512 from 512 to 134,217,728, or length above capacity
- *   2  count not exactly capacity / 64
- *   8  v neither 0 nor 1
- *   4  i not below the length (strip_get), or above it (the others)
+ *   2  words not exactly capacity / 64
+ *   3  counters not exactly as many as the capacity needs
+ *   4  a position above the length; for strip_get and strip_flip also at it
+ *   5  a span whose start is above its end
  *   6  no such stroke
+ *   7  the strip is full
+ *   8  v neither 0 nor 1
+ *   9  the record does not fit: a one past the length, or a wrong counter
+ *
+ * The buffers lent to one call do not overlap. A buffer of no numbers may be NULL.
  */
 #ifndef TESTING_H
 #define TESTING_H
@@ -20,6 +27,9 @@
 #ifdef __cplusplus
 extern "C" {
 #endif
+
+/* ---- The calls on words alone. They ignore the bits past the length, write nothing, and answer the value, or 2^32 plus
+ * the refusal's number. `count` is the number of words lent. */
 
 /* look(i): the bit at position i. Refusals: 1, 2, 4. */
 uint64_t strip_get(size_t capacity, size_t length, const uint64_t *words, size_t count, size_t i);
@@ -32,6 +42,54 @@ uint64_t strip_predecessor(size_t capacity, size_t length, const uint64_t *words
 
 /* The position of the k-th one of x, k from 0, or 64 where x has too few. */
 size_t strip_select_in_word(uint64_t x, size_t k);
+
+/* ---- The calls that read a record. They write nothing, and answer the value, or 2^32 plus the refusal's number. On a
+ * record that does not fit, strip_rank answers at most the length, or 9; strip_select a position below the length, 6 or 9. */
+
+/* count(v, i): how many of the first i bits equal v. Refusals: 1, 2, 3, 8, 4, 9. */
+uint64_t strip_rank(size_t capacity, size_t length, const uint64_t *words, size_t word_count, const uint32_t *counters,
+                    size_t counter_count, uint64_t v, size_t i);
+
+/* find(v, k): the position that holds v and has k of v before it; k starts at 0. Refusals: 1, 2, 3, 8, 6, 9. */
+uint64_t strip_select(size_t capacity, size_t length, const uint64_t *words, size_t word_count,
+                      const uint32_t *counters, size_t counter_count, uint64_t v, size_t k);
+
+/* check: the ones held. Refusals: 1, 2, 3; 9 exactly where the record does not fit. */
+uint64_t strip_verify(size_t capacity, size_t length, const uint64_t *words, size_t word_count,
+                      const uint32_t *counters, size_t counter_count);
+
+/* ---- The calls that change a record. They write five numbers to `out`, and none past the fifth:
+ *   out[0]  the refusal's number, or 0
+ *   out[1]  the first value, 0 where refused
+ *   out[2]  the second value, 0 where there is none
+ *   out[3]  the capacity of the handle to go on with
+ *   out[4]  its length
+ * A refused call changes no word and no counter, and gives back the handle that it got. `room` is the number of numbers
+ * lent as `out`; with fewer than five the call does nothing at all. */
+
+/* lay(capacity): zeroes words and counters, and gives a handle of length 0. Value: the number of counters. Refusals:
+ * 1, 2, 3; the handle is then 0, 0. */
+void strip_create(size_t capacity, uint64_t *words, size_t word_count, uint32_t *counters, size_t counter_count,
+                  uint64_t *out, size_t room);
+
+/* add(v): appends v. Values: its position, and the number of counters changed. Refusals: 1, 2, 3, 8, 7, 9. */
+void strip_push(size_t capacity, size_t length, uint64_t *words, size_t word_count, uint32_t *counters,
+                size_t counter_count, uint64_t v, uint64_t *out, size_t room);
+
+/* turn(i): replaces the bit at position i by its opposite. Values: the new bit, and the number of counters changed.
+ * Refusals: 1, 2, 3, 4, 9. */
+void strip_flip(size_t capacity, size_t length, uint64_t *words, size_t word_count, uint32_t *counters,
+                size_t counter_count, size_t i, uint64_t *out, size_t room);
+
+/* run(a, b, v): sets the positions a to b - 1 to v, zeroes the bits past the length, and lays all counters from the
+ * words, so that any record fits afterwards. Value: the ones now held. Refusals: 1, 2, 3, 8, 5, 4. */
+void strip_fill(size_t capacity, size_t length, uint64_t *words, size_t word_count, uint32_t *counters,
+                size_t counter_count, size_t a, size_t b, uint64_t v, uint64_t *out, size_t room);
+
+/* cut(n): keeps the first n bits, zeroes those past them, and lays all counters. Value: the ones held. Refusals:
+ * 1, 2, 3, 4. */
+void strip_truncate(size_t capacity, size_t length, uint64_t *words, size_t word_count, uint32_t *counters,
+                    size_t counter_count, size_t n, uint64_t *out, size_t room);
 
 #ifdef __cplusplus
 }

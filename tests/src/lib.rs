@@ -1,17 +1,13 @@
-//! The proved calls on words, to be compared with a plain model of them.
+//! The proved calls, to be compared with a plain model of them: those on words here, those on a record in `record`.
+mod ffi;
 pub mod model;
 pub mod random;
+pub mod record;
 
-extern "C" {
-    // include/testing.h says what each answers.
-    fn strip_get(capacity: usize, length: usize, words: *const u64, count: usize, i: usize) -> u64;
-    fn strip_successor(capacity: usize, length: usize, words: *const u64, count: usize, v: u64, i: usize) -> u64;
-    fn strip_predecessor(capacity: usize, length: usize, words: *const u64, count: usize, v: u64, i: usize) -> u64;
-    fn strip_select_in_word(x: u64, k: usize) -> usize;
-}
+use ffi::{strip_get, strip_predecessor, strip_select_in_word, strip_successor};
 
 /// A handle, passed by value.
-#[derive(Clone, Copy, Debug)]
+#[derive(Clone, Copy, Debug, PartialEq, Eq)]
 pub struct Handle {
     pub capacity: usize,
     pub length: usize,

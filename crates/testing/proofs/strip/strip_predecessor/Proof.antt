@@ -1,11 +1,11 @@
--- `testing::strip_predecessor` meets its contract: it is that of `predecessor`, then that of `coded`. Assumes nothing.
+-- `testing::strip::strip_predecessor` meets its contract: it is that of `predecessor`, then that of `coded`. Assumes nothing.
 use borrow.Author.Needs.{needs}
 use mathlib.Core.Path.{ap, _∙_}
 use Rattle.words.specs.declared.handle.Handle.{Handle}
 use Rattle.words.specs.Refusals.{coded}
 use Rattle.words.specs.Calls.{predecessorTold}
-use Rattle.testing.proofs.strip_predecessor.Statement.{statement}
-use Rattle.testing.proofs.strip_predecessor.Tie as tie
+use Rattle.testing.proofs.strip.strip_predecessor.Statement.{statement}
+use Rattle.testing.proofs.strip.strip_predecessor.Tie as tie
 
 new-requires : tie.Need-new-requires
 new-requires c κs = search needs

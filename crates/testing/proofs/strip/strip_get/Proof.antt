@@ -1,11 +1,11 @@
--- `testing::strip_get` meets its contract: it is that of `get`, then that of `coded`. Assumes nothing.
+-- `testing::strip::strip_get` meets its contract: it is that of `get`, then that of `coded`. Assumes nothing.
 use borrow.Author.Needs.{needs}
 use mathlib.Core.Path.{ap, _∙_}
 use Rattle.words.specs.declared.handle.Handle.{Handle}
 use Rattle.words.specs.Refusals.{coded}
 use Rattle.words.specs.Calls.{getTold}
-use Rattle.testing.proofs.strip_get.Statement.{statement}
-use Rattle.testing.proofs.strip_get.Tie as tie
+use Rattle.testing.proofs.strip.strip_get.Statement.{statement}
+use Rattle.testing.proofs.strip.strip_get.Tie as tie
 
 new-requires : tie.Need-new-requires
 new-requires c κs = search needs

@@ -1,0 +1,204 @@
+// The same tree of counters written by hand in C++, for comparison. Nothing is checked: the caller lends a fitting
+// record, and positions and k that are there.
+#include <cstddef>
+#include <cstdint>
+#include <cstring>
+
+namespace {
+
+using std::size_t;
+using std::uint32_t;
+using std::uint64_t;
+
+constexpr uint64_t lanes = 0x0101010101010101;
+constexpr uint64_t tops = 0x8080808080808080;
+
+// The position of the k-th one of the byte b at 8 * b + k, or 8.
+struct Table {
+    std::uint8_t at[2048];
+    constexpr Table() : at{}
+    {
+        for (unsigned b = 0; b < 256; b++) {
+            unsigned k = 0;
+            for (unsigned p = 0; p < 8; p++)
+                if (b >> p & 1) at[8 * b + k++] = p;
+            while (k < 8) at[8 * b + k++] = 8;
+        }
+    }
+};
+constexpr Table table;
+
+uint64_t byte_counts(uint64_t x)
+{
+    x -= x >> 1 & 0x5555555555555555;
+    x = (x & 0x3333333333333333) + (x >> 2 & 0x3333333333333333);
+    return (x + (x >> 4)) & 0x0f0f0f0f0f0f0f0f;
+}
+
+size_t ones(uint64_t x) { return byte_counts(x) * lanes >> 56; }
+
+size_t select_in_word(uint64_t x, size_t k)
+{
+    uint64_t sums = byte_counts(x) * lanes;
+    uint64_t above = (((k * lanes | tops) - sums) & tops) ^ tops;
+    size_t at = __builtin_ctzll(above) - 7;
+    return at + table.at[8 * (x >> at & 255) + (k - (sums << 8 >> at & 255))];
+}
+
+// The levels over a capacity: their number, and where each starts; level 0 is the lowest.
+struct Shape {
+    size_t height, start[3];
+    explicit Shape(size_t capacity)
+    {
+        size_t nodes[3], count = capacity / 512;
+        for (height = 0; height == 0 || count > 1; height++) nodes[height] = count = (count + 63) / 64;
+        for (size_t t = height, at = 0; t-- > 0; at += 72 * nodes[t]) start[t] = at;
+    }
+};
+
+// Moves the counters that count stroke p by d, and gives their number.
+size_t move(const Shape &shape, uint32_t *counters, size_t p, uint32_t d)
+{
+    size_t number = 0, child = p / 512;
+    for (size_t t = 0; t < shape.height; t++) {
+        size_t c = child % 64;
+        child /= 64;
+        uint32_t *node = counters + shape.start[t] + 72 * child;
+        for (size_t g = c / 8 + 1; g < 8; g++) node[g] += d;
+        for (size_t key = c; key < 8 * (c / 8) + 8; key++) node[8 + key] += d;
+        number += 15 - c % 8 - c / 8;
+    }
+    return number;
+}
+
+// Lays the counters of a node whose children hold these numbers.
+void lay_node(const uint32_t *children, uint32_t *node)
+{
+    uint32_t sum = 0;
+    for (size_t g = 0; g < 8; g++) {
+        node[g] = sum;
+        uint32_t group = 0;
+        for (size_t c = 8 * g; c < 8 * g + 8; c++) node[8 + c] = group += children[c];
+        sum += group;
+    }
+}
+
+// Gives each node as it should be to `use`, level by level from the lowest, until it answers false.
+template <class Use> bool each_node(size_t capacity, const uint64_t *words, const uint32_t *counters, Use use)
+{
+    Shape shape(capacity);
+    size_t count = capacity / 512;
+    for (size_t t = 0; t < shape.height; t++) {
+        for (size_t first = 0; first < count; first += 64) {
+            uint32_t children[64] = {}, node[72];
+            for (size_t c = 0; c < 64 && first + c < count; c++)
+                if (t == 0) {
+                    for (size_t j = 0; j < 8; j++) children[c] += ones(words[8 * (first + c) + j]);
+                } else {
+                    const uint32_t *below = counters + shape.start[t - 1] + 72 * (first + c);
+                    children[c] = below[7] + below[71];
+                }
+            lay_node(children, node);
+            if (!use(shape.start[t] + 72 * (first / 64), node)) return false;
+        }
+        count = (count + 63) / 64;
+    }
+    return true;
+}
+
+void put(uint64_t *words, size_t a, size_t b, uint64_t v)
+{
+    for (; a < b && a % 64 != 0; a++) words[a / 64] = (words[a / 64] & ~(uint64_t(1) << a % 64)) | v << a % 64;
+    for (; a + 64 <= b; a += 64) words[a / 64] = v ? ~uint64_t(0) : 0;
+    for (; a < b; a++) words[a / 64] = (words[a / 64] & ~(uint64_t(1) << a % 64)) | v << a % 64;
+}
+
+} // namespace
+
+extern "C" {
+
+// count(1, i), i below the capacity
+size_t tree_rank(size_t capacity, const uint64_t *words, const uint32_t *counters, size_t i)
+{
+    Shape shape(capacity);
+    size_t sum = 0, child = i / 512;
+    for (size_t t = 0; t < shape.height; t++) {
+        size_t c = child % 64;
+        child /= 64;
+        const uint32_t *node = counters + shape.start[t] + 72 * child;
+        sum += node[c / 8];
+        if (c % 8 != 0) sum += node[7 + c];
+    }
+    for (size_t j = i / 512 * 8; j < i / 64; j++) sum += ones(words[j]);
+    return sum + ones(words[i / 64] & ((uint64_t(1) << i % 64) - 1));
+}
+
+// find(v, k)
+size_t tree_select(size_t capacity, const uint64_t *words, const uint32_t *counters, uint64_t v, size_t k)
+{
+    Shape shape(capacity);
+    size_t index = 0;
+    for (size_t t = shape.height; t-- > 0;) {
+        const uint32_t *node = counters + shape.start[t] + 72 * index;
+        size_t size = size_t(512) << 6 * t;
+        auto held = [=](size_t x, size_t children) { return v == 1 ? x : size * children - x; };
+        size_t g = 7, c = 0;
+        while (held(node[g], 8 * g) > k) g--;
+        k -= held(node[g], 8 * g);
+        const uint32_t *keys = node + 8 + 8 * g;
+        while (c < 7 && held(keys[c], c + 1) <= k) c++;
+        if (c != 0) k -= held(keys[c - 1], c);
+        index = 64 * index + 8 * g + c;
+    }
+    for (size_t j = 8 * index;; j++) {
+        uint64_t x = v == 1 ? words[j] : ~words[j];
+        size_t n = ones(x);
+        if (k < n) return 64 * j + select_in_word(x, k);
+        k -= n;
+    }
+}
+
+// turn(p): the number of counters changed
+size_t tree_flip(size_t capacity, uint64_t *words, uint32_t *counters, size_t p)
+{
+    words[p / 64] ^= uint64_t(1) << p % 64;
+    return move(Shape(capacity), counters, p, (words[p / 64] >> p % 64 & 1) ? 1 : -1);
+}
+
+// add(v) at position p: the number of counters changed
+size_t tree_push(size_t capacity, uint64_t *words, uint32_t *counters, size_t p, uint64_t v)
+{
+    if (v == 0) return 0;
+    words[p / 64] |= uint64_t(1) << p % 64;
+    return move(Shape(capacity), counters, p, 1);
+}
+
+// run(a, b, v) on a strip of that length: the ones held
+size_t tree_fill(size_t capacity, size_t length, uint64_t *words, uint32_t *counters, size_t a, size_t b, uint64_t v)
+{
+    put(words, a, b, v);
+    put(words, length, capacity, 0);
+    each_node(capacity, words, counters, [=](size_t at, const uint32_t *node) {
+        std::memcpy(counters + at, node, 72 * sizeof *node);
+        return true;
+    });
+    return size_t(counters[7]) + counters[71];
+}
+
+// check: whether every counter is right, and every bit past the length 0
+bool tree_verify(size_t capacity, size_t length, const uint64_t *words, const uint32_t *counters)
+{
+    for (size_t p = length; p < capacity; p++) {
+        if (p % 64 == 0) {
+            for (size_t j = p / 64; j < capacity / 64; j++)
+                if (words[j] != 0) return false;
+            break;
+        }
+        if (words[p / 64] >> p % 64 & 1) return false;
+    }
+    return each_node(capacity, words, counters, [=](size_t at, const uint32_t *node) {
+        return std::memcmp(counters + at, node, 72 * sizeof *node) == 0;
+    });
+}
+
+} // extern "C"

@@ -1,0 +1,27 @@
+-- `testing::record::strip_verify` meets its contract: it is that of `verify`, then that of `coded`. Assumes nothing.
+use borrow.Author.Needs.{needs}
+use Rattle.words.specs.declared.handle.Handle.{Handle}
+use Rattle.words.specs.Refusals.{toldOf}
+use Rattle.words.specs.Handles.{handle}
+use Rattle.counters.specs.Calls.{Verified}
+use Rattle.testing.proofs.ExportLaws.{coded-as}
+use Rattle.testing.proofs.record.strip_verify.Statement.{statement}
+use Rattle.testing.proofs.record.strip_verify.Tie as tie
+
+new-requires : tie.Need-new-requires
+new-requires c κs = search needs
+
+verify-requires : tie.Need-verify-requires
+verify-requires c κs = search needs
+
+coded-requires : tie.Need-coded-requires
+coded-requires c κs = search needs
+
+returns : tie.Need-returns
+returns c =
+    let a = c .before .before .before .before .before .args in
+    coded-as (λ (h : Handle). Verified h (a .words .now) (a .counters .now)) (c .before .before .new .result) (handle (a .capacity) (a .length)) (toldOf (c .before .verify .result)) (c .coded .result)
+    (c .before .before .new .ensures) (c .before .verify .ensures) (c .coded .ensures)
+
+pub strip-verify-spec : {M : Type 1} → statement M
+strip-verify-spec = tie.close (tie.spec new-requires verify-requires coded-requires returns)

@@ -1,0 +1,62 @@
+-- `testing::record::write_laid` meets its contract, case by case. Assumes nothing.
+use mathlib.Core.Path.{sym, ap, ap₂, _∙_}
+use Prim.Native.Nat.{ℕ}
+use borrow.Author.Needs.{needs}
+use Rattle.words.specs.declared.handle.Handle.{Handle}
+use Rattle.counters.specs.declared.answer.Laid.{Laid}
+use Rattle.counters.specs.Promises.{laidOf}
+use Rattle.testing.specs.Exports.{five, laidFive, fiveOver}
+use Rattle.testing.proofs.record.write_laid.Statement.{statement}
+use Rattle.testing.proofs.record.write_laid.Tie as tie
+
+enum-known-m : tie.Need-enum-known-m
+enum-known-m c = search needs
+
+write-five-requires : tie.Need-write-five-requires
+write-five-requires c κs = search needs
+
+enum-known-m-2 : tie.Need-enum-known-m-2
+enum-known-m-2 c = search needs
+
+number-requires : tie.Need-number-requires
+number-requires c κs = search needs
+
+new-requires : tie.Need-new-requires
+new-requires c κs = search needs
+
+write-five-requires-2 : tie.Need-write-five-requires-2
+write-five-requires-2 c κs = search needs
+
+same-length : tie.Need-same-length
+same-length c = search needs
+
+returns : tie.Need-returns
+returns c =
+    let a = c .before .before .before .before .before .before .before .before .args in
+    c .before .before .write-five .ensures
+    ∙ sym (ap (λ (m : Laid). fiveOver (laidFive (laidOf m)) (a .out .now)) (c .before .before .before .before .before .m .given .1))
+
+same-length-2 : tie.Need-same-length-2
+same-length-2 c = search needs
+
+returns-2 : tie.Need-returns-2
+returns-2 c =
+    let a = c .before .before .before .before .before .before .before .before .before .before .args in
+    c .before .before .write-five2 .ensures
+    ∙ ap₂ (λ (n : ℕ) (h : Handle). fiveOver (five n 0 0 h) (a .out .now)) (c .before .before .before .before .number .ensures .0) (c .before .before .before .new .ensures)
+    ∙ sym (ap (λ (m : Laid). fiveOver (laidFive (laidOf m)) (a .out .now)) (c .before .before .before .before .before .before .before .m2 .given .1))
+
+pub write-laid-spec : {M : Type 1} → statement M
+write-laid-spec =
+    tie.close
+    (tie.spec
+    enum-known-m
+    write-five-requires
+    enum-known-m-2
+    number-requires
+    new-requires
+    write-five-requires-2
+    same-length
+    returns
+    same-length-2
+    returns-2)

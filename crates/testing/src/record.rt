@@ -1,0 +1,194 @@
+// The calls on a record, words and counters. The readings answer a number, a refusal as 2^32 plus its number. The changes write five numbers to the
+// front of `out`: refusal or 0, first value, second value or 0, capacity and length of the handle now in use. With a shorter `out` nothing runs.
+ghost use mathlib.Core.Path.{_≡_};
+ghost use Prim.Native.Nat.{_≤_};
+ghost use lib.ListN.{length};
+ghost use Rattle.words.specs.Handles.{handle as handleOf};
+ghost use Rattle.counters.specs.Promises.{laidOf, movedOf};
+ghost use Rattle.counters.specs.Calls.{Ranked, Selected, Verified, createOutcome, Pushed, Flipped, fillOutcome, truncateOutcome};
+ghost use Rattle.testing.specs.Exports.{CodedAs, five, movedFive, laidFive, fiveOver, lent, reported, Reported};
+use counters::answer::Laid;
+use counters::answer::Moved;
+use counters::change::create;
+use counters::change::fill;
+use counters::change::flip;
+use counters::change::push;
+use counters::change::truncate;
+use counters::read::rank;
+use counters::read::select;
+use counters::read::verify;
+use words::handle::Handle;
+use words::refusal::coded;
+use words::refusal::number;
+
+// count(v, i): how many of the first i bits equal v.
+#[no_mangle]
+pub extern "C" fn strip_rank(
+    capacity: usize,
+    length: usize,
+    words: &[u64],
+    counters: &[u32],
+    v: u64,
+    i: usize,
+) -> u64
+    ensures { λ r. ⌜ CodedAs (Ranked (handleOf capacity length) v i (now (words .entry)) (now (counters .entry))) r ⌝ }
+{
+    coded(rank(Handle::new(capacity, length), words, counters, v, i))
+}
+
+// find(v, k): the position that holds v and has k of v before it.
+#[no_mangle]
+pub extern "C" fn strip_select(
+    capacity: usize,
+    length: usize,
+    words: &[u64],
+    counters: &[u32],
+    v: u64,
+    k: usize,
+) -> u64
+    ensures { λ r. ⌜ CodedAs (Selected (handleOf capacity length) v k (now (words .entry)) (now (counters .entry))) r ⌝ }
+{
+    coded(select(Handle::new(capacity, length), words, counters, v, k))
+}
+
+// check: the ones held, or 9 where the record does not fit.
+#[no_mangle]
+pub extern "C" fn strip_verify(
+    capacity: usize,
+    length: usize,
+    words: &[u64],
+    counters: &[u32],
+) -> u64
+    ensures { λ r. ⌜ CodedAs (Verified (handleOf capacity length) (now (words .entry)) (now (counters .entry))) r ⌝ }
+{
+    coded(verify(Handle::new(capacity, length), words, counters))
+}
+
+// Writes the five numbers.
+fn write_five(out: &mut [u64], refusal: u64, x: u64, y: u64, h: Handle)
+    requires { ⌜ 5 ≤ length (now out) ⌝ }
+    ensures { λ _. ⌜ now (out .exit) ≡ fiveOver (five refusal x y h) (now (out .entry)) ⌝ }
+{
+    out[0] = refusal;
+    out[1] = x;
+    out[2] = y;
+    out[3] = h.capacity as u64;
+    out[4] = h.length as u64;
+}
+
+// Writes what a change answers.
+fn write_moved(out: &mut [u64], m: Moved)
+    requires { ⌜ 5 ≤ length (now out) ⌝ }
+    ensures { λ _. ⌜ now (out .exit) ≡ fiveOver (movedFive (movedOf m)) (now (out .entry)) ⌝ }
+{
+    match m {
+        Moved::Done(h, x, y) => write_five(out, 0, x, y, h),
+        Moved::Refused(h, r) => write_five(out, number(r), 0, 0, h),
+    }
+}
+
+// Writes what laying answers.
+fn write_laid(out: &mut [u64], m: Laid)
+    requires { ⌜ 5 ≤ length (now out) ⌝ }
+    ensures { λ _. ⌜ now (out .exit) ≡ fiveOver (laidFive (laidOf m)) (now (out .entry)) ⌝ }
+{
+    match m {
+        Laid::Done(h, x) => write_five(out, 0, x, 0, h),
+        Laid::Refused(r) => write_five(out, number(r), 0, 0, Handle::new(0, 0)),
+    }
+}
+
+// lay(capacity): zeroes words and counters.
+#[no_mangle]
+pub extern "C" fn strip_create(
+    capacity: usize,
+    words: &mut [u64],
+    counters: &mut [u32],
+    out: &mut [u64],
+)
+    ensures { λ _. ⌜ lent (now (words .exit)) (now (counters .exit)) (now (out .exit)) ≡ reported laidFive (now (words .entry)) (now (counters .entry)) (now (out .entry)) (createOutcome capacity (now (words .entry)) (now (counters .entry))) ⌝ }
+{
+    if out.len() < 5 {
+        return;
+    }
+    let m = create(capacity, words, counters);
+    write_laid(out, m);
+}
+
+// add(v): appends v.
+#[no_mangle]
+pub extern "C" fn strip_push(
+    capacity: usize,
+    length: usize,
+    words: &mut [u64],
+    counters: &mut [u32],
+    v: u64,
+    out: &mut [u64],
+)
+    ensures { λ _. ⌜ Reported (Pushed (handleOf capacity length) v (now (words .entry)) (now (counters .entry))) (now (words .entry)) (now (counters .entry)) (now (out .entry)) (lent (now (words .exit)) (now (counters .exit)) (now (out .exit))) ⌝ }
+{
+    if out.len() < 5 {
+        return;
+    }
+    let m = push(Handle::new(capacity, length), words, counters, v);
+    write_moved(out, m);
+}
+
+// turn(i): replaces a bit by its opposite.
+#[no_mangle]
+pub extern "C" fn strip_flip(
+    capacity: usize,
+    length: usize,
+    words: &mut [u64],
+    counters: &mut [u32],
+    i: usize,
+    out: &mut [u64],
+)
+    ensures { λ _. ⌜ Reported (Flipped (handleOf capacity length) i (now (words .entry)) (now (counters .entry))) (now (words .entry)) (now (counters .entry)) (now (out .entry)) (lent (now (words .exit)) (now (counters .exit)) (now (out .exit))) ⌝ }
+{
+    if out.len() < 5 {
+        return;
+    }
+    let m = flip(Handle::new(capacity, length), words, counters, i);
+    write_moved(out, m);
+}
+
+// run(a, b, v): sets the positions a to b - 1 to v.
+#[no_mangle]
+pub extern "C" fn strip_fill(
+    capacity: usize,
+    length: usize,
+    words: &mut [u64],
+    counters: &mut [u32],
+    a: usize,
+    b: usize,
+    v: u64,
+    out: &mut [u64],
+)
+    ensures { λ _. ⌜ lent (now (words .exit)) (now (counters .exit)) (now (out .exit)) ≡ reported movedFive (now (words .entry)) (now (counters .entry)) (now (out .entry)) (fillOutcome (handleOf capacity length) a b v (now (words .entry)) (now (counters .entry))) ⌝ }
+{
+    if out.len() < 5 {
+        return;
+    }
+    let m = fill(Handle::new(capacity, length), words, counters, a, b, v);
+    write_moved(out, m);
+}
+
+// cut(n): keeps the first n.
+#[no_mangle]
+pub extern "C" fn strip_truncate(
+    capacity: usize,
+    length: usize,
+    words: &mut [u64],
+    counters: &mut [u32],
+    n: usize,
+    out: &mut [u64],
+)
+    ensures { λ _. ⌜ lent (now (words .exit)) (now (counters .exit)) (now (out .exit)) ≡ reported movedFive (now (words .entry)) (now (counters .entry)) (now (out .entry)) (truncateOutcome (handleOf capacity length) n (now (words .entry)) (now (counters .entry))) ⌝ }
+{
+    if out.len() < 5 {
+        return;
+    }
+    let m = truncate(Handle::new(capacity, length), words, counters, n);
+    write_moved(out, m);
+}

@@ -1,0 +1,173 @@
+/* Fixed cases of the calls on a record, called from C. */
+#include "testing.h"
+
+#include <inttypes.h>
+#include <stdio.h>
+#include <stdlib.h>
+#include <string.h>
+
+#define REFUSED(n) ((UINT64_C(1) << 32) + (n))
+
+/* Strip A, 01101101010101110: 17 bits. */
+static const char a[] = "01101101010101110";
+
+/* A record, the handle to go on with, and the last five numbers, with one past them. */
+static uint64_t *words;
+static uint32_t *counters;
+static size_t word_count, counter_count, capacity, length;
+static uint64_t out[6];
+
+static int failed = 0;
+
+static void expect(const char *name, uint64_t answer, uint64_t expected)
+{
+    if (answer != expected) {
+        printf("%s: %" PRIu64 ", expected %" PRIu64 "\n", name, answer, expected);
+        failed = 1;
+    }
+}
+
+#define EXPECT(call, expected) expect(#call, call, expected)
+
+#define RECORD words, word_count, counters, counter_count
+
+/* After a change: the handle that it gives, unless laying gave none; the value asked for, or the refusal. */
+static uint64_t changed(int value)
+{
+    if (out[3] != 0) {
+        capacity = out[3];
+        length = out[4];
+    }
+    expect("the number past the fifth", out[5], 77);
+    return out[0] != 0 ? REFUSED(out[0]) : out[value];
+}
+
+/* The two values of a change by numbers 1 and 2. */
+static uint64_t create(size_t c, int value) { strip_create(c, RECORD, out, 5); return changed(value); }
+static uint64_t push(uint64_t v, int value) { strip_push(capacity, length, RECORD, v, out, 5); return changed(value); }
+static uint64_t flip(size_t i, int value) { strip_flip(capacity, length, RECORD, i, out, 5); return changed(value); }
+static uint64_t fill(size_t x, size_t y, uint64_t v) { strip_fill(capacity, length, RECORD, x, y, v, out, 5); return changed(1); }
+static uint64_t truncate_to(size_t n) { strip_truncate(capacity, length, RECORD, n, out, 5); return changed(1); }
+static uint64_t rank_of(uint64_t v, size_t i) { return strip_rank(capacity, length, RECORD, v, i); }
+static uint64_t select_of(uint64_t v, size_t k) { return strip_select(capacity, length, RECORD, v, k); }
+static uint64_t verify(void) { return strip_verify(capacity, length, RECORD); }
+
+/* Room for a record of that capacity with so many counters, full of junk. */
+static void room(size_t c, size_t n)
+{
+    free(words);
+    free(counters);
+    word_count = c / 64;
+    counter_count = n;
+    words = malloc(word_count * sizeof *words);
+    counters = malloc(counter_count * sizeof *counters);
+    if (words == NULL || counters == NULL)
+        exit(2);
+    memset(words, 0xa5, word_count * sizeof *words);
+    memset(counters, 0x5a, counter_count * sizeof *counters);
+    out[5] = 77;
+}
+
+/* A full strip of ones: the length is the capacity, and an empty span lays the counters. */
+static void lay_full(size_t c, size_t n)
+{
+    room(c, n);
+    memset(words, 0xff, word_count * sizeof *words);
+    capacity = length = c;
+    EXPECT(fill(0, 0, 0), c);
+}
+
+int main(void)
+{
+    /* strip A, stroke by stroke; P1, P2, P4, P5 */
+    room(512, 72);
+    EXPECT(create(512, 1), 72);
+    for (size_t p = 0; p < strlen(a); p++)
+        EXPECT(push(a[p] == '1', 1), p);
+    EXPECT(length, 17);
+    EXPECT(words[0], 0xeab6);
+    EXPECT(rank_of(1, 8), 5);
+    EXPECT(rank_of(1, 7), 4);
+    EXPECT(select_of(1, 7), 13);
+    EXPECT(rank_of(1, 17), 10);
+    EXPECT(rank_of(1, 18), REFUSED(4));
+    EXPECT(select_of(1, 9), 15);
+    EXPECT(select_of(1, 10), REFUSED(6));
+    EXPECT(rank_of(0, 17), 7);
+    EXPECT(select_of(0, 6), 16);
+    EXPECT(verify(), 10);
+
+    /* P7: keys 0 to 7 and summaries 1 to 7 are 10 */
+    for (size_t x = 0; x < 72; x++)
+        EXPECT(counters[x], x >= 1 && x < 16 ? 10 : 0);
+
+    /* P8, P3 */
+    EXPECT(flip(3, 2), 15);
+    EXPECT(flip(6, 1), 1);
+    EXPECT(rank_of(1, 8), 7);
+    EXPECT(select_of(1, 7), 9);
+    EXPECT(fill(2, 9, 0), 6);
+    EXPECT(truncate_to(12), 3);
+    EXPECT(length, 12);
+    EXPECT(verify(), 3);
+
+    /* refusals in order: they give back the handle, and two numbers 0 */
+    EXPECT(push(2, 1), REFUSED(8));
+    EXPECT(fill(9, 3, 2), REFUSED(8));
+    EXPECT(fill(14, 13, 1), REFUSED(5));
+    EXPECT(fill(3, 13, 1), REFUSED(4));
+    EXPECT(flip(12, 1), REFUSED(4));
+    EXPECT(truncate_to(13), REFUSED(4));
+    EXPECT(out[1] + out[2], 0);
+    EXPECT(out[3], 512);
+    EXPECT(out[4], 12);
+
+    /* a wrong counter is found, and an empty span lays it right */
+    counters[40]++;
+    EXPECT(verify(), REFUSED(9));
+    EXPECT(fill(12, 12, 1), 3);
+    EXPECT(verify(), 3);
+
+    /* P6; 1, 2, 3, and no handle; no buffers at all */
+    EXPECT(create(512, 1), 72);
+    EXPECT(rank_of(0, 0), 0);
+    EXPECT(select_of(0, 0), REFUSED(6));
+    EXPECT(create(513, 1), REFUSED(1));
+    EXPECT(create(1024, 1), REFUSED(2));
+    counter_count = 71;
+    EXPECT(create(512, 1), REFUSED(3));
+    EXPECT(out[3] + out[4], 0);
+    counter_count = 72;
+    EXPECT(strip_rank(512, 0, NULL, 0, NULL, 0, 2, 1), REFUSED(2));
+    EXPECT(strip_verify(0, 0, NULL, 0, NULL, 0), REFUSED(1));
+
+    /* too short an `out`, or none: nothing happens */
+    EXPECT(push(1, 1), 0);
+    out[0] = 5;
+    strip_push(512, 1, RECORD, 1, out, 4);
+    strip_create(512, RECORD, NULL, 0);
+    EXPECT(out[0], 5);
+    EXPECT(verify(), 1);
+
+    /* P9, P10 */
+    lay_full(32768, 72);
+    EXPECT(push(1, 1), REFUSED(7));
+    EXPECT(push(2, 1), REFUSED(8));
+    EXPECT(flip(32767, 2), 1);
+    EXPECT(rank_of(1, 32768), 32767);
+    lay_full(33280, 216);
+    EXPECT(flip(32768, 2), 29);
+    EXPECT(select_of(0, 0), 32768);
+    EXPECT(select_of(1, 33278), 33279);
+
+    /* P11 */
+    static const size_t sizes[][2] = {{32768, 72}, {33280, 216}, {2097152, 4680}, {2097664, 4896}, {134217728, 299592}};
+    for (size_t k = 0; k < sizeof sizes / sizeof sizes[0]; k++) {
+        room(sizes[k][0], sizes[k][1]);
+        EXPECT(create(sizes[k][0], 1), sizes[k][1]);
+        EXPECT(verify(), 0);
+    }
+    free(words);
+    free(counters);
+    return failed;
+}

@@ -1,0 +1,91 @@
+//! The exported calls; include/testing.h says what each answers.
+
+extern "C" {
+    pub fn strip_get(capacity: usize, length: usize, words: *const u64, count: usize, i: usize) -> u64;
+    pub fn strip_successor(capacity: usize, length: usize, words: *const u64, count: usize, v: u64, i: usize) -> u64;
+    pub fn strip_predecessor(capacity: usize, length: usize, words: *const u64, count: usize, v: u64, i: usize) -> u64;
+    pub fn strip_select_in_word(x: u64, k: usize) -> usize;
+    pub fn strip_create(
+        capacity: usize,
+        words: *mut u64,
+        word_count: usize,
+        counters: *mut u32,
+        counter_count: usize,
+        out: *mut u64,
+        room: usize,
+    );
+    pub fn strip_push(
+        capacity: usize,
+        length: usize,
+        words: *mut u64,
+        word_count: usize,
+        counters: *mut u32,
+        counter_count: usize,
+        v: u64,
+        out: *mut u64,
+        room: usize,
+    );
+    pub fn strip_flip(
+        capacity: usize,
+        length: usize,
+        words: *mut u64,
+        word_count: usize,
+        counters: *mut u32,
+        counter_count: usize,
+        i: usize,
+        out: *mut u64,
+        room: usize,
+    );
+    pub fn strip_fill(
+        capacity: usize,
+        length: usize,
+        words: *mut u64,
+        word_count: usize,
+        counters: *mut u32,
+        counter_count: usize,
+        a: usize,
+        b: usize,
+        v: u64,
+        out: *mut u64,
+        room: usize,
+    );
+    pub fn strip_truncate(
+        capacity: usize,
+        length: usize,
+        words: *mut u64,
+        word_count: usize,
+        counters: *mut u32,
+        counter_count: usize,
+        n: usize,
+        out: *mut u64,
+        room: usize,
+    );
+    pub fn strip_rank(
+        capacity: usize,
+        length: usize,
+        words: *const u64,
+        word_count: usize,
+        counters: *const u32,
+        counter_count: usize,
+        v: u64,
+        i: usize,
+    ) -> u64;
+    pub fn strip_select(
+        capacity: usize,
+        length: usize,
+        words: *const u64,
+        word_count: usize,
+        counters: *const u32,
+        counter_count: usize,
+        v: u64,
+        k: usize,
+    ) -> u64;
+    pub fn strip_verify(
+        capacity: usize,
+        length: usize,
+        words: *const u64,
+        word_count: usize,
+        counters: *const u32,
+        counter_count: usize,
+    ) -> u64;
+}

@@ -1,0 +1,152 @@
+//! A record, words and counters, lent to the proved calls.
+use crate::ffi::{
+    strip_create, strip_fill, strip_flip, strip_push, strip_rank, strip_select, strip_truncate, strip_verify,
+};
+use crate::Handle;
+
+/// A call that changes a record. `Create` takes a capacity and no handle.
+#[derive(Clone, Copy, Debug)]
+pub enum Change {
+    Create(usize),
+    Push(u64),
+    Flip(usize),
+    Fill(usize, usize, u64),
+    Truncate(usize),
+}
+
+/// A call that reads a record.
+#[derive(Clone, Copy, Debug)]
+pub enum Reading {
+    Rank(u64, usize),
+    Select(u64, usize),
+    Verify,
+}
+
+/// What a change writes to `out`: refusal or 0, two values, the handle now in use.
+#[derive(Clone, Copy, Debug, PartialEq, Eq)]
+pub struct Report {
+    pub refusal: u64,
+    pub first: u64,
+    pub second: u64,
+    pub handle: Handle,
+}
+
+/// Numbers between two guards.
+struct Guarded<T> {
+    memory: Vec<T>,
+    guard: T,
+}
+
+impl<T: Copy + PartialEq> Guarded<T> {
+    fn new(numbers: &[T], guard: T) -> Guarded<T> {
+        Guarded { memory: [&[guard; 4], numbers, &[guard; 4]].concat(), guard }
+    }
+
+    fn numbers(&self) -> &[T] {
+        &self.memory[4..self.memory.len() - 4]
+    }
+
+    fn numbers_mut(&mut self) -> &mut [T] {
+        let end = self.memory.len() - 4;
+        &mut self.memory[4..end]
+    }
+
+    fn lend(&mut self) -> (*mut T, usize) {
+        let numbers = self.numbers_mut();
+        (numbers.as_mut_ptr(), numbers.len())
+    }
+
+    fn intact(&self) -> bool {
+        let (left, right) = (&self.memory[..4], &self.memory[self.memory.len() - 4..]);
+        left.iter().chain(right).all(|number| *number == self.guard)
+    }
+}
+
+/// What `out` holds before a call.
+const UNTOUCHED: u64 = 0x5bd1_e995_ffff_0000;
+
+/// Words and counters. Each call asserts that it wrote to nothing beside them and the first five numbers of `out`.
+pub struct Record {
+    words: Guarded<u64>,
+    counters: Guarded<u32>,
+}
+
+impl Record {
+    pub fn new(words: &[u64], counters: &[u32]) -> Record {
+        Record { words: Guarded::new(words, 0xa5a5_a5a5_5a5a_5a5a), counters: Guarded::new(counters, 0x5a5a_a5a5) }
+    }
+
+    pub fn words(&self) -> &[u64] {
+        self.words.numbers()
+    }
+
+    pub fn counters(&self) -> &[u32] {
+        self.counters.numbers()
+    }
+
+    pub fn words_mut(&mut self) -> &mut [u64] {
+        self.words.numbers_mut()
+    }
+
+    pub fn counters_mut(&mut self) -> &mut [u32] {
+        self.counters.numbers_mut()
+    }
+
+    /// How many words and counters are lent.
+    pub fn sizes(&self) -> (usize, usize) {
+        (self.words().len(), self.counters().len())
+    }
+
+    /// Makes the change, with an `out` of eight numbers.
+    pub fn change(&mut self, h: Handle, change: Change) -> Report {
+        let out = self.run(h, change, 8);
+        assert!(out[5..].iter().all(|number| *number == UNTOUCHED), "{change:?} wrote past the five numbers");
+        Report {
+            refusal: out[0],
+            first: out[1],
+            second: out[2],
+            handle: Handle { capacity: out[3] as usize, length: out[4] as usize },
+        }
+    }
+
+    /// Makes the call with an `out` of fewer than five numbers, and asserts that it wrote nothing there.
+    pub fn idle(&mut self, h: Handle, change: Change, room: usize) {
+        assert!(room < 5);
+        let out = self.run(h, change, room);
+        assert!(out.iter().all(|number| *number == UNTOUCHED), "{change:?} wrote to {room} numbers");
+    }
+
+    fn run(&mut self, h: Handle, change: Change, room: usize) -> Vec<u64> {
+        let mut report = Guarded::new(&vec![UNTOUCHED; room], UNTOUCHED);
+        let ((words, nw), (counters, nc), (out, no)) = (self.words.lend(), self.counters.lend(), report.lend());
+        let Handle { capacity: c, length: n } = h;
+        // SAFETY: the pointers are to nw words, nc counters and no numbers, which live through the call and do not meet.
+        unsafe {
+            match change {
+                Change::Create(c) => strip_create(c, words, nw, counters, nc, out, no),
+                Change::Push(v) => strip_push(c, n, words, nw, counters, nc, v, out, no),
+                Change::Flip(i) => strip_flip(c, n, words, nw, counters, nc, i, out, no),
+                Change::Fill(a, b, v) => strip_fill(c, n, words, nw, counters, nc, a, b, v, out, no),
+                Change::Truncate(m) => strip_truncate(c, n, words, nw, counters, nc, m, out, no),
+            }
+        }
+        assert!(self.words.intact() && self.counters.intact() && report.intact(), "{change:?} wrote to a guard");
+        report.numbers().to_vec()
+    }
+
+    /// The value, or 2^32 plus the refusal's number.
+    pub fn read(&mut self, h: Handle, reading: Reading) -> u64 {
+        let ((words, nw), (counters, nc)) = (self.words.lend(), self.counters.lend());
+        let Handle { capacity: c, length: n } = h;
+        // SAFETY: as in `run`.
+        let answer = unsafe {
+            match reading {
+                Reading::Rank(v, i) => strip_rank(c, n, words, nw, counters, nc, v, i),
+                Reading::Select(v, k) => strip_select(c, n, words, nw, counters, nc, v, k),
+                Reading::Verify => strip_verify(c, n, words, nw, counters, nc),
+            }
+        };
+        assert!(self.words.intact() && self.counters.intact(), "{reading:?} wrote to a guard");
+        answer
+    }
+}
