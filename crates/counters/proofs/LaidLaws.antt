@@ -13,7 +13,7 @@ use Rattle.words.specs.Handles.{handle}
 use Rattle.words.specs.declared.handle.Handle.{Handle}
 use Rattle.words.proofs.Sums.{lt-or, ones-none, ones-flat, ones-le, listOf-is, length-listOf, getD-listOf}
 use Rattle.words.proofs.WordLaws.{word-bit, bitAt-past}
-use Rattle.words.proofs.LaneLaws.{field, digits-ext, digits-at, digits-of}
+use Rattle.words.proofs.DigitLaws.{field, digits-ext, digits-at, digits-of}
 use Rattle.words.proofs.StripLaws.{strip-cell, strip-length}
 use Rattle.counters.specs.Tree.{blocksOf, nodes, height, childBits, childOnes, fromChild, toChild, counter, total, counterCount, indexOf, levels}
 use Rattle.counters.specs.Record.{Fits, wordsLaid, countersLaid}

@@ -10,4 +10,6 @@ pub mod SelectionLaws
 pub mod ChangeLaws
 pub mod PromiseLaws
 pub mod ReadLaws
+pub mod AgainLaws
+pub mod NumberLaws
 pub mod Examples

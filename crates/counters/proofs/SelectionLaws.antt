@@ -16,9 +16,7 @@ use Rattle.words.specs.Words.{placeIn}
 use Rattle.words.specs.Working.{atMost}
 use Rattle.words.proofs.Sums.{lt-or, ones-more, ones-mono, ones-le}
 use Rattle.words.proofs.WordLaws.{holds-le, block-bit}
-use Rattle.words.proofs.SearchLaws.{rank-ones, rank-both, rank-part, placeIn-none, placeIn-place}
-use Rattle.words.proofs.SelectLaws.{Reached, reached}
-use Rattle.words.proofs.BlockSelectLaws.{part-select}
+use Rattle.words.proofs.SearchLaws.{Reached, reached, rank-ones, rank-both, rank-part, part-select, placeIn-none, placeIn-place}
 use Rattle.counters.specs.Tree.{nodes, height, childBits, fromChild, toChild, counterCount}
 use Rattle.counters.specs.Working.{AllFit}
 use Rattle.counters.specs.Descent.{Valued, Rising, Counted, Lies, valuesBefore}

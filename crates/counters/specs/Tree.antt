@@ -3,18 +3,12 @@
 use Prim.Native.Nat.{ℕ, zero, suc, _+_, _-_, _*_, _/_, _%_, _^_}
 use mathlib.Core.Bool.{Bool, true, false, cond, _&&_}
 use mathlib.Core.List.{List, [], _∷_, _++_}
-use lib.Dec.{leb, ltb}
+use lib.Dec.{leb, ltb, eqb}
+use lib.ListN.{getD}
 use Rattle.words.specs.Bits.{ones, listOf}
 use Rattle.words.specs.Strip.{least}
 use Rattle.words.specs.Words.{placeIn}
 use Rattle.words.specs.Handles.{blockBits}
-
--- a node has 64 children and 72 counters: 8 summaries, then 64 keys
-abbrev pub fanout : ℕ
-fanout = 64
-
-abbrev pub nodeCounters : ℕ
-nodeCounters = 72
 
 -- the number of blocks of a capacity
 abbrev pub blocksOf : ℕ → ℕ
@@ -37,8 +31,9 @@ childBits t = 512 * 64 ^ (t - 1)
 unfoldable pub childOnes : (ℕ → ℕ) → ℕ → ℕ → ℕ
 childOnes f t m = ones (λ p. f (childBits t * m + p)) (childBits t)
 
--- Summary g is the ones in the first 8 times g children, key c the ones in children 8 times (c div 8) to c. Counter i of a node is summary i for
--- i below 8, else key i - 8. The children whose ones it gives: from `fromChild i` up to, not including, `toChild i`
+-- A node has 64 children and 72 counters: 8 summaries, then 64 keys. Summary g is the ones in the first 8 times g children, key c the ones in
+-- children 8 times (c div 8) to c. Counter i of a node is summary i for i below 8, else key i - 8. The children whose ones it gives: from
+-- `fromChild i` up to, not including, `toChild i`
 unfoldable pub fromChild : ℕ → ℕ
 fromChild i = cond (ltb i 8) 0 (8 * ((i - 8) / 8))
 
@@ -81,3 +76,7 @@ changed n p = ones (λ s. 15 - slot (s + 1) p % 8 - slot (s + 1) p / 8) (height 
 unfoldable pub levels : (ℕ → ℕ) → ℕ → ℕ → List ℕ
 levels f n zero = []
 levels f n (suc t) = listOf (λ y. counter f (suc t) (y / 72) (y % 72)) (72 * nodes n (suc t)) ++ levels f n t
+
+-- how many of the first n numbers of two lists differ
+abbrev pub differ : List ℕ → List ℕ → ℕ → ℕ
+differ xs ys n = ones (λ x. cond (eqb (getD xs x 0) (getD ys x 0)) 0 1) n

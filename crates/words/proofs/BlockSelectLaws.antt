@@ -11,7 +11,7 @@ use Rattle.words.specs.Strip.{holds, rankOf, selectOf}
 use Rattle.words.specs.Words.{placeIn, selectIn}
 use Rattle.words.proofs.Sums.{lt-or, ones-zero}
 use Rattle.words.proofs.WordLaws.{word-bit}
-use Rattle.words.proofs.SearchLaws.{Place, rank-part, place-in, placeIn-at, placeIn-none, placeIn-place}
+use Rattle.words.proofs.SearchLaws.{rank-part, placeIn-none, part-select}
 
 -- the v before the end of word j
 pub word-rank : (ws : List ℕ) (v j k : ℕ) → k ≡ j + 1 → rankOf (bitAt ws) v (64 * j) + rankOf (bit (getD ws j 0)) v 64 ≡ rankOf (bitAt ws) v (64 * k)
@@ -45,15 +45,6 @@ span-half f v k j w n left i rest c s (inr h) =
       under = omega (arith, s .under, h .1 .1, ap (λ (m : ℕ). rankOf f v (64 * m)) (h .1 .0));
       over = inr (omega (arith, s .under, h .0, ap (λ (m : ℕ). rankOf f v (64 * (m + w))) (h .1 .0)));
     }
-
--- the k-th v lies in the part g of f, w positions from a on, with `left` of v before it there: its position in the part gives that in the whole
-pub part-select : (f g : ℕ → ℕ) (a w n v k left r : ℕ) → ((p : ℕ) → p < w → g p ≡ f (a + p)) → a + w ≤ n → rankOf f v a + left ≡ k → left < rankOf g v w
-    → r ≡ placeIn w (selectOf g w v left) → (r < w) × (a + r ≡ placeIn n (selectOf f n v k))
-part-select f g a w n v k left r part top e l er =
-    let ek : left ≡ k - rankOf f v a = omega arith in
-    let p : Place g w v left r = subst (λ (q : ℕ). Place g w v left q) (sym er) (placeIn-place g w v left l) in
-    let q : Place f n v k (a + r) = place-in f g a w n v k (rankOf f v a) r part top refl (omega arith) (subst (λ (x : ℕ). Place g w v x r) ek p) in
-    (p .below, sym (placeIn-at f n v k (a + r) q))
 
 -- in one word: the position there, or the end
 pub span-word : (ws : List ℕ) (v k j left r : ℕ) → Span (bitAt ws) v k j (j + 1) left → r ≡ selectIn 64 (getD ws j 0) v left

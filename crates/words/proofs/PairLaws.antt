@@ -10,7 +10,7 @@ use Rattle.words.specs.Bits.{bit, digits, ones}
 use Rattle.words.specs.Words.{byteOf, onesInByte}
 use Rattle.words.proofs.Sums.{ones-zero, ones-suc, ones-ext, ones-split, ones-le}
 use Rattle.words.proofs.BitLaws.{bit-le, byte-bit}
-use Rattle.words.proofs.LaneLaws.{field, digits-ext, digits-add, digits-at, digits-and}
+use Rattle.words.proofs.DigitLaws.{field, digits-ext, digits-add, digits-at, digits-and}
 
 -- the ones of field i of x, of w bits
 abbrev pub fieldOnes : ℕ → ℕ → ℕ → ℕ

@@ -4,17 +4,18 @@ use mathlib.Core.Path.{_≡_, refl, sym, ap, ap₂, _∙_, subst}
 use mathlib.Core.Bool.{Bool, true, false, cond, _&&_}
 use mathlib.Core.Logic.{_⊎_, inl, inr}
 use mathlib.Core.Option.{Option, some, none}
-use Prim.Native.Nat.{ℕ, zero, suc, _+_, _-_, _≤_, _<_, zero-le, suc-le-suc}
+use Prim.Native.Nat.{ℕ, zero, suc, _+_, _-_, _≤_, _<_, zero-le}
 use native.Mathlib.Nat.{le-refl, lt-suc-self, not-suc-le-zero}
 use native.Mathlib.Omega.{arith}
 use native.Mathlib.Decide.{ℕ-discrete}
-use lib.Dec.{eqb, leb}
-use borrow.Author.Tests.{eqb-true, eqb-false, leb-true, leb-false, eq-eqb, ne-eqb, le-leb, lt-leb}
+use lib.Dec.{eqb}
+use borrow.Author.Tests.{eqb-true, eq-eqb, le-leb, lt-leb}
 use Rattle.words.specs.Bits.{ones}
-use Rattle.words.specs.Strip.{orElse, least, greatest, holds, rankOf, selectOf, successorOf, predecessorOf}
+use Rattle.words.specs.Strip.{orElse, least, greatest, holds, rankOf, selectOf}
 use Rattle.words.specs.Words.{placeIn}
+use Rattle.words.specs.Working.{atMost}
 use Rattle.words.proofs.BoolLaws.{bool-or, true-false, and-intro, and-first, and-second}
-use Rattle.words.proofs.Sums.{lt-or, ones-suc, ones-zero, ones-ext, ones-mono, rank-one, part-ones}
+use Rattle.words.proofs.Sums.{lt-or, ones-suc, ones-zero, ones-ext, rank-one, part-ones}
 use Rattle.words.proofs.WordLaws.{holds-yes, holds-no, holds-le, holds-zero, holds-one}
 
 -- ---- the smallest position that passes a test
@@ -239,3 +240,52 @@ pub rank-both : (f : ℕ → ℕ) (i : ℕ) → ((p : ℕ) → f p ≤ 1) → ra
 unfolding ones
 rank-both f zero h = refl
 rank-both f (suc i) h = omega (arith, rank-both f i h, holds-zero f i (h i), holds-one f i (h i), h i)
+
+-- the k-th v lies in the part g of f, w positions from a on, with `left` of v before it there: its position in the part gives that in the whole
+pub part-select : (f g : ℕ → ℕ) (a w n v k left r : ℕ) → ((p : ℕ) → p < w → g p ≡ f (a + p)) → a + w ≤ n → rankOf f v a + left ≡ k → left < rankOf g v w
+    → r ≡ placeIn w (selectOf g w v left) → (r < w) × (a + r ≡ placeIn n (selectOf f n v k))
+part-select f g a w n v k left r part top e l er =
+    let ek : left ≡ k - rankOf f v a = omega arith in
+    let p : Place g w v left r = subst (λ (q : ℕ). Place g w v left q) (sym er) (placeIn-place g w v left l) in
+    let q : Place f n v k (a + r) = place-in f g a w n v k (rankOf f v a) r part top refl (omega arith) (subst (λ (x : ℕ). Place g w v x r) ek p) in
+    (p .below, sym (placeIn-at f n v k (a + r) q))
+
+-- ---- of rising numbers, how many are at most k: those before the first that is above it
+pub record Reached (P : ℕ → ℕ) (k n c : ℕ) : Type 0 where
+  pub within : c ≤ n
+  pub low : (j : ℕ) → j < c → P j ≤ k
+  pub above : c < n → k < P c
+
+pub reached : (P : ℕ → ℕ) (k n : ℕ) → ((i j : ℕ) → i ≤ j → P i ≤ P j) → Reached P k n (ones (atMost P k) n)
+reached P k zero up =
+    rw (ones-zero (atMost P k)) (record { within = zero-le; low = (λ j l. absurd (omega arith)); above = (λ l. absurd (omega arith)) })
+reached P k (suc n) up = go (lt-or k (P n)) (reached P k n up)
+  where
+    go : (k < P n) ⊎ (P n ≤ k) → Reached P k n (ones (atMost P k) n) → Reached P k (suc n) (ones (atMost P k) (suc n))
+    go (inl l) ih =
+        let c : ℕ = ones (atMost P k) n in
+        let t : atMost P k n ≡ 0 = simp (lt-leb (P n) k l) in
+        let e : ones (atMost P k) (suc n) ≡ c = ones-suc (atMost P k) n ∙ omega (arith, t) in
+        rw e (record {
+          within = omega (arith, ih .within);
+          low = ih .low;
+          above = (λ h. first c (ih .within) (ih .above) (lt-or c n));
+        })
+      where
+        first : (c : ℕ) → c ≤ n → (c < n → k < P c) → (c < n) ⊎ (n ≤ c) → k < P c
+        first c w a (inl h) = a h
+        first c w a (inr h) = let s : c ≡ n = omega arith in rw s l
+    go (inr l) ih =
+        let c : ℕ = ones (atMost P k) n in
+        let t : atMost P k n ≡ 1 = simp (le-leb (P n) k l) in
+        let all : c ≡ n = full c (ih .within) (ih .above) (lt-or c n) in
+        let e : ones (atMost P k) (suc n) ≡ suc n = ones-suc (atMost P k) n ∙ omega (arith, t, all) in
+        rw e (record {
+          within = le-refl (suc n);
+          low = (λ j h. native.Mathlib.Nat.le-trans (up j n (omega arith)) l);
+          above = (λ h. absurd (omega arith));
+        })
+      where
+        full : (c : ℕ) → c ≤ n → (c < n → k < P c) → (c < n) ⊎ (n ≤ c) → c ≡ n
+        full c w a (inl h) = absurd (omega (arith, a h, up c n w))
+        full c w a (inr h) = omega arith

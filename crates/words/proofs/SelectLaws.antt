@@ -1,22 +1,19 @@
 -- Select in a word by its bytes: which byte, how many ones before it, and the position. Assumes nothing.
-use mathlib.Core.Path.{_≡_, refl, sym, ap, ap₂, _∙_, subst}
-use mathlib.Core.Bool.{Bool, true, false, cond}
-use mathlib.Core.Logic.{_⊎_, inl, inr}
-use Prim.Native.Nat.{ℕ, zero, suc, _+_, _-_, _*_, _/_, _%_, _^_, _≤_, _<_, zero-le}
-use native.Mathlib.Nat.{le-refl, div-one, mul-mod-left, mul-div-cancel, lt-suc-self}
-use native.Mathlib.Numerals.{add-one}
+use mathlib.Core.Path.{_≡_, sym, ap, _∙_, subst}
+use mathlib.Core.Bool.{cond}
+use Prim.Native.Nat.{ℕ, zero, suc, _+_, _-_, _*_, _/_, _%_, _^_, _≤_, _<_}
+use native.Mathlib.Nat.{le-refl, div-one, mul-mod-left, mul-div-cancel}
 use native.Mathlib.Omega.{arith}
 use lib.Dec.{leb, lit≤}
 use lib.Pow as W
-use borrow.Author.Tests.{le-leb, lt-leb}
 use Rattle.words.specs.Bits.{bit, ones}
-use Rattle.words.specs.Strip.{holds, rankOf, selectOf}
+use Rattle.words.specs.Strip.{holds, rankOf}
 use Rattle.words.specs.Words.{byteOf, onesInByte, Prefixes, placeIn, selectIn}
 use Rattle.words.specs.Working.{Matched, atMost}
-use Rattle.words.proofs.Sums.{lt-or, ones-zero, ones-suc, ones-ext, ones-le, ones-mono}
+use Rattle.words.proofs.Sums.{ones-zero, ones-suc, ones-ext, ones-le, ones-mono}
 use Rattle.words.proofs.WordLaws.{holds-one}
 use Rattle.words.proofs.BitLaws.{bit-le, byte-bit, byte-ones}
-use Rattle.words.proofs.SearchLaws.{Place, select-ext, place-in, placeIn-at, placeIn-none, placeIn-place, rank-ones}
+use Rattle.words.proofs.SearchLaws.{Place, Reached, reached, select-ext, place-in, placeIn-at, placeIn-none, placeIn-place, rank-ones}
 
 -- the ones of the first j bytes
 pub bytes-ones : (x j : ℕ) → ones (onesInByte x) j ≡ ones (bit x) (8 * j)
@@ -26,46 +23,6 @@ bytes-ones x (suc j) =
     ones-suc (onesInByte x) j
     ∙ ap (λ (n : ℕ). n + onesInByte x j) (bytes-ones x j)
     ∙ sym (ap (ones (bit x)) e ∙ byte-ones x (8 * j) 8 (lit≤ tt))
-
--- ---- of rising numbers, how many are at most k: those before the first that is above it
-pub record Reached (P : ℕ → ℕ) (k n c : ℕ) : Type 0 where
-  pub within : c ≤ n
-  pub low : (j : ℕ) → j < c → P j ≤ k
-  pub above : c < n → k < P c
-
-pub reached : (P : ℕ → ℕ) (k n : ℕ) → ((i j : ℕ) → i ≤ j → P i ≤ P j) → Reached P k n (ones (atMost P k) n)
-reached P k zero up =
-    rw (ones-zero (atMost P k)) (record { within = zero-le; low = (λ j l. absurd (omega arith)); above = (λ l. absurd (omega arith)) })
-reached P k (suc n) up = go (lt-or k (P n)) (reached P k n up)
-  where
-    go : (k < P n) ⊎ (P n ≤ k) → Reached P k n (ones (atMost P k) n) → Reached P k (suc n) (ones (atMost P k) (suc n))
-    go (inl l) ih =
-        let c : ℕ = ones (atMost P k) n in
-        let t : atMost P k n ≡ 0 = simp (lt-leb (P n) k l) in
-        let e : ones (atMost P k) (suc n) ≡ c = ones-suc (atMost P k) n ∙ omega (arith, t) in
-        rw e (record {
-          within = omega (arith, ih .within);
-          low = ih .low;
-          above = (λ h. first c (ih .within) (ih .above) (lt-or c n));
-        })
-      where
-        first : (c : ℕ) → c ≤ n → (c < n → k < P c) → (c < n) ⊎ (n ≤ c) → k < P c
-        first c w a (inl h) = a h
-        first c w a (inr h) = let s : c ≡ n = omega arith in rw s l
-    go (inr l) ih =
-        let c : ℕ = ones (atMost P k) n in
-        let t : atMost P k n ≡ 1 = simp (le-leb (P n) k l) in
-        let all : c ≡ n = full c (ih .within) (ih .above) (lt-or c n) in
-        let e : ones (atMost P k) (suc n) ≡ suc n = ones-suc (atMost P k) n ∙ omega (arith, t, all) in
-        rw e (record {
-          within = le-refl (suc n);
-          low = (λ j h. native.Mathlib.Nat.le-trans (up j n (omega arith)) l);
-          above = (λ h. absurd (omega arith));
-        })
-      where
-        full : (c : ℕ) → c ≤ n → (c < n → k < P c) → (c < n) ⊎ (n ≤ c) → c ≡ n
-        full c w a (inl h) = absurd (omega (arith, a h, up c n w))
-        full c w a (inr h) = omega arith
 
 -- ---- the byte that holds the k-th one
 -- the ones of bytes 0 to j

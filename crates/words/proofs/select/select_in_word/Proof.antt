@@ -9,7 +9,8 @@ use Rattle.words.specs.Bits.{bit, ones}
 use Rattle.words.specs.Words.{byteOf, Prefixes, selectIn}
 use Rattle.words.proofs.Sums.{ones-le}
 use Rattle.words.proofs.BitLaws.{bit-le, byte-ones}
-use Rattle.words.proofs.SelectLaws.{Reached, byte-reached, prefix-le, under-is, few, found}
+use Rattle.words.proofs.SearchLaws.{Reached}
+use Rattle.words.proofs.SelectLaws.{byte-reached, prefix-le, under-is, few, found}
 use Rattle.words.proofs.select.select_in_word.Statement.{statement}
 use Rattle.words.proofs.select.select_in_word.Tie as tie
 

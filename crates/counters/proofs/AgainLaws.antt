@@ -1,0 +1,149 @@
+-- The record fits again: after each change that its table passes, the words and counters that the outcome names fit under the handle that it gives.
+-- Assumes nothing.
+use mathlib.Core.Path.{_≡_, refl, sym, ap, _∙_, subst}
+use mathlib.Core.Bool.{Bool, true, false, cond, _&&_}
+use mathlib.Core.Logic.{_⊎_, inl, inr}
+use mathlib.Core.List.{List, [], _∷_, _++_}
+use mathlib.Core.Option.{none}
+use Prim.Native.Nat.{ℕ, _+_, _-_, _≤_, _<_}
+use native.Mathlib.Decide.{ℕ-discrete}
+use native.Mathlib.Omega.{arith}
+use lib.Dec.{leb, ltb}
+use lib.ListN.{length, set, take, replicate, length-append, length-set, List·getD-append, List·getD-eq-default}
+use lib.Seq.{getD-append-add, getD-set-same, getD-set-other, getD-take, length-take-le}
+use borrow.Author.Tests.{leb-false, ltb-false}
+use Rattle.words.specs.Strip.{cell}
+use Rattle.words.specs.Refusals.{_⇒_, judge}
+use Rattle.words.specs.Handles.{handle}
+use Rattle.words.specs.Calls.{valueLine, belowLine, withinLine}
+use Rattle.words.specs.declared.handle.Handle.{Handle}
+use Rattle.words.proofs.Sums.{lt-or, length-listOf, getD-listOf}
+use Rattle.words.proofs.WordLaws.{bitAt-le}
+use Rattle.words.proofs.StripLaws.{strip-cell, strip-length}
+use Rattle.counters.specs.Record.{Fits, wordsLaid, countersLaid}
+use Rattle.counters.specs.Calls.{checks, held, pushTable, flipTable, fillTable, filled, truncateTable}
+use Rattle.counters.proofs.LaidLaws.{laid-fits, words-zero, counters-zero}
+use Rattle.counters.proofs.PromiseLaws.{sizes, sizes-of, lines-of}
+
+-- ---- strips of bits
+-- bits at the cells that a strip has: bits at all
+bits-all : (s : List ℕ) → ((p : ℕ) → p < length s → cell s p ≤ 1) → (p : ℕ) → cell s p ≤ 1
+bits-all s bits p = go (lt-or p (length s))
+  where
+    go : (p < length s) ⊎ (length s ≤ p) → cell s p ≤ 1
+    go (inl l) = bits p l
+    go (inr l) = omega (arith, List·getD-eq-default s 0 {n = p} l)
+
+-- a strip that words hold
+held-bits : (h : Handle) (ws : List ℕ) (p : ℕ) → cell (held h ws) p ≤ 1
+held-bits h ws =
+    bits-all (held h ws)
+    (λ p l. let q : p < h .length = omega (arith, strip-length ws (h .length)) in omega (arith, strip-cell ws (h .length) p q, bitAt-le ws p))
+
+-- a bit appended
+push-bits : (s : List ℕ) (v : ℕ) → ((p : ℕ) → cell s p ≤ 1) → v ≤ 1 → (p : ℕ) → cell (s ++ (v ∷ [])) p ≤ 1
+push-bits s v bits small =
+    bits-all (s ++ (v ∷ [])) (λ p l. each p l (lt-or p (length s)))
+  where
+    each : (p : ℕ) → p < length (s ++ (v ∷ [])) → (p < length s) ⊎ (length s ≤ p) → cell (s ++ (v ∷ [])) p ≤ 1
+    each p l (inl a) = omega (arith, List·getD-append s (v ∷ []) 0 p a, bits p)
+    each p l (inr a) =
+        let z : length (v ∷ []) ≡ 1 = refl in
+        let e : p ≡ length s + 0 = omega (arith, length-append s (v ∷ []), z) in
+        let c : cell (s ++ (v ∷ [])) p ≡ v = ap (cell (s ++ (v ∷ []))) e ∙ getD-append-add s (v ∷ []) 0 0 in
+        omega (arith, c)
+
+-- a cell made a bit
+set-bits : (s : List ℕ) (i b : ℕ) → ((p : ℕ) → cell s p ≤ 1) → b ≤ 1 → (p : ℕ) → cell (set s i b) p ≤ 1
+set-bits s i b bits small = bits-all (set s i b) (λ p l. each p l (ℕ-discrete p i))
+  where
+    each : (p : ℕ) → p < length (set s i b) → Dec (p ≡ i) → cell (set s i b) p ≤ 1
+    each p l (yes e) =
+        let c : cell (set s i b) p ≡ b = ap (cell (set s i b)) e ∙ getD-set-same s i b 0 (omega (arith, length-set s i b)) in
+        omega (arith, c)
+    each p l (no d) = omega (arith, getD-set-other s i p b 0 d, bits p)
+
+-- cells a to b - 1 made a bit
+filled-bits : (s : List ℕ) (a b v : ℕ) → ((p : ℕ) → cell s p ≤ 1) → v ≤ 1 → (p : ℕ) → cell (filled s a b v) p ≤ 1
+unfolding filled
+filled-bits s a b v bits small =
+    bits-all (filled s a b v)
+    (λ p l.
+    let q : p < length s = omega (arith, length-listOf (λ p. cond (leb a p && ltb p b) v (cell s p)) (length s)) in
+    let e = getD-listOf (λ p. cond (leb a p && ltb p b) v (cell s p)) (length s) p q in
+    omega (arith, e, pick (leb a p && ltb p b) (cell s p) (bits p)))
+  where
+    pick : (t : Bool) (x : ℕ) → x ≤ 1 → cond t v x ≤ 1
+    pick true x l = small
+    pick false x l = l
+
+-- as long as the strip
+filled-length : (s : List ℕ) (a b v : ℕ) → length (filled s a b v) ≡ length s
+unfolding filled
+filled-length s a b v = length-listOf (λ p. cond (leb a p && ltb p b) v (cell s p)) (length s)
+
+-- the first n cells
+take-bits : (n : ℕ) (s : List ℕ) → n ≤ length s → ((p : ℕ) → cell s p ≤ 1) → (p : ℕ) → cell (take n s) p ≤ 1
+take-bits n s h bits =
+    bits-all (take n s) (λ p l. omega (arith, getD-take n s p 0 (omega (arith, length-take-le n s h)), bits p))
+
+-- ---- the record after each change
+-- lay
+pub create-again : (c : ℕ) (ws cs : List ℕ) → judge (checks (handle c 0) (length ws) (length cs)) ≡ none
+    → Fits (handle c 0) (replicate (length ws) 0) (replicate (length cs) 0)
+create-again c ws cs pass =
+    let z = sizes (handle c 0) ws cs pass in
+    let none : (p : ℕ) → cell [] p ≤ 1 = (λ p. omega arith) in
+    let w : wordsLaid c [] ≡ replicate (length ws) 0 = words-zero c ∙ ap (λ (n : ℕ). replicate n 0) (sym (z .words)) in
+    let k : countersLaid c [] ≡ replicate (length cs) 0 = counters-zero c ∙ ap (λ (n : ℕ). replicate n 0) (sym (z .counters)) in
+    subst (λ (x : List ℕ). Fits (handle c 0) (replicate (length ws) 0) x) k
+    (subst (λ (x : List ℕ). Fits (handle c 0) x (countersLaid c [])) w (laid-fits c [] (z .step) (omega arith) none))
+
+-- add
+pub push-again : (h : Handle) (ws cs : List ℕ) (v : ℕ) → judge (pushTable h (length ws) (length cs) v) ≡ none
+    → Fits (handle (h .capacity) (length (held h ws ++ (v ∷ [])))) (wordsLaid (h .capacity) (held h ws ++ (v ∷ [])))
+    (countersLaid (h .capacity) (held h ws ++ (v ∷ [])))
+push-again h ws cs v pass =
+    let ls = valueLine v ∷ (leb (h .capacity) (h .length) ⇒ 7) ∷ [] in
+    let z = sizes-of h ws cs ls pass in
+    let l = lines-of h ws cs ls pass in
+    let small : v ≤ 1 = ltb-false _ _ (l .0) in
+    let room : h .length < h .capacity = leb-false _ _ (l .1 .0) in
+    let one : length (v ∷ []) ≡ 1 = refl in
+    laid-fits (h .capacity) (held h ws ++ (v ∷ [])) (z .step)
+    (omega (arith, length-append (held h ws) (v ∷ []), one, strip-length ws (h .length)))
+    (push-bits (held h ws) v (held-bits h ws) small)
+
+-- turn
+pub flip-again : (h : Handle) (ws cs : List ℕ) (i : ℕ) → judge (flipTable h (length ws) (length cs) i) ≡ none
+    → Fits (handle (h .capacity) (length (set (held h ws) i (1 - cell (held h ws) i))))
+    (wordsLaid (h .capacity) (set (held h ws) i (1 - cell (held h ws) i))) (countersLaid (h .capacity) (set (held h ws) i (1 - cell (held h ws) i)))
+flip-again h ws cs i pass =
+    let z = sizes-of h ws cs (belowLine h i ∷ []) pass in
+    let b : ℕ = 1 - cell (held h ws) i in
+    laid-fits (h .capacity) (set (held h ws) i b) (z .step)
+    (omega (arith, length-set (held h ws) i b, strip-length ws (h .length), z .long))
+    (set-bits (held h ws) i b (held-bits h ws) (omega arith))
+
+-- run
+pub fill-again : (h : Handle) (ws cs : List ℕ) (a b v : ℕ) → judge (fillTable h (length ws) (length cs) a b v) ≡ none
+    → Fits (handle (h .capacity) (length (filled (held h ws) a b v))) (wordsLaid (h .capacity) (filled (held h ws) a b v))
+    (countersLaid (h .capacity) (filled (held h ws) a b v))
+fill-again h ws cs a b v pass =
+    let ls = valueLine v ∷ (ltb b a ⇒ 5) ∷ withinLine h b ∷ [] in
+    let z = sizes-of h ws cs ls pass in
+    let small : v ≤ 1 = ltb-false _ _ (lines-of h ws cs ls pass .0) in
+    laid-fits (h .capacity) (filled (held h ws) a b v) (z .step)
+    (omega (arith, filled-length (held h ws) a b v, strip-length ws (h .length), z .long))
+    (filled-bits (held h ws) a b v (held-bits h ws) small)
+
+-- cut
+pub truncate-again : (h : Handle) (ws cs : List ℕ) (n : ℕ) → judge (truncateTable h (length ws) (length cs) n) ≡ none
+    → Fits (handle (h .capacity) (length (take n (held h ws)))) (wordsLaid (h .capacity) (take n (held h ws)))
+    (countersLaid (h .capacity) (take n (held h ws)))
+truncate-again h ws cs n pass =
+    let z = sizes-of h ws cs (withinLine h n ∷ []) pass in
+    let within : n ≤ h .length = ltb-false _ _ (lines-of h ws cs (withinLine h n ∷ []) pass .0) in
+    let room : n ≤ length (held h ws) = omega (arith, strip-length ws (h .length)) in
+    laid-fits (h .capacity) (take n (held h ws)) (z .step) (omega (arith, length-take-le n (held h ws) room, z .long))
+    (take-bits n (held h ws) room (held-bits h ws))
