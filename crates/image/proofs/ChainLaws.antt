@@ -1,0 +1,542 @@
+-- The laws of the header, of records and of a sound chain. Assumes nothing.
+use mathlib.Core.Path.{_≡_, refl, sym, ap, subst, _∙_}
+use mathlib.Core.Bool.{Bool, true, false, cond, not, _&&_, _||_, and-false, true≢false, false≢true}
+use mathlib.Core.List.{List, [], _∷_, _++_}
+use mathlib.Core.Option.{Option, some, none}
+use Prim.Native.Nat.{ℕ, zero, suc, _+_, _-_, _*_, _%_, _^_, _<_, _≤_}
+use native.Mathlib.Nat.{add-assoc}
+use native.Mathlib.Omega.{arith}
+use lib.ListN.{length, getD, take, drop}
+use lib.Dec.{leb, eqb}
+use borrow.Author.Tests.{le-leb, lt-leb, eq-eqb, ne-eqb, leb-true, eqb-true, eqb-false}
+use Rattle.words.specs.Bits.{digits}
+use Rattle.words.specs.Strip.{orElse}
+use Rattle.words.specs.Words.{placeIn}
+use Rattle.words.specs.declared.refusal.Refusal.{Refusal}
+use Rattle.words.specs.declared.refusal.Answer.{Answer}
+use Rattle.words.specs.declared.refusal.Answer.the-variants.{Value, Refused}
+use Rattle.words.specs.Refusals.{numberOf, judge, unless, value, refused, toldOf}
+use Rattle.words.proofs.BoolLaws.{and-first, and-second, not-not}
+use Rattle.words.proofs.CheckLaws.{passes}
+use Rattle.words.proofs.DigitLaws.{digits-ext}
+use Rattle.image.specs.Bytes.{num}
+use Rattle.image.specs.Layout.{unitBytes, kind, mostLabel, mostRow}
+use Rattle.image.specs.Chain.{nextAt, labelAt, lengthAt, endAt, goodLabel, soundHeader, soundRecord, among, inFront, chainFrom, chainOf, placeOf, endOf, linkOf}
+use Rattle.image.specs.Rows.{partAt}
+use Rattle.image.specs.Calls.{isSome, recordsIn, recordsOf, recordWith, placeIs, openTable, openTold, openPart}
+
+-- ---- numbers of bytes
+-- eight bytes are twice four
+pub num-eight : (s : List ℕ) (at : ℕ) → num s at 8 ≡ num s at 4 + 4294967296 * num s (at + 4) 4
+unfolding digits
+num-eight s at =
+    let moved : num s (at + 4) 4 ≡ digits 256 (λ i. getD s (at + (4 + i)) 0) 4 =
+    digits-ext 256 (λ i. getD s (at + 4 + i) 0) (λ i. getD s (at + (4 + i)) 0) 4 (λ i l. ap (λ (k : ℕ). getD s k 0) (add-assoc at 4 i)) in
+    omega (arith, moved)
+
+-- ---- the header and a record
+-- a test that holds exactly where the facts do
+pub decides : {F : Type 0} (t u : Bool) → (t ≡ true → F) → (F → t ≡ true) → (u ≡ true → F) → (F → u ≡ true) → t ≡ u
+decides true true a b c d = refl
+decides true false a b c d = sym (d (a refl))
+decides false true a b c d = b (c refl)
+decides false false a b c d = refl
+
+-- what a sound header is known for
+pub record HeaderFacts (s : List ℕ) : Type 0 where
+  pub least : unitBytes ≤ length s
+  pub most : length s ≤ 2 ^ 32
+  pub kinds : num s 4 4 ≡ kind
+  pub zeros : num s 8 8 ≡ 0
+
+-- a sound header has the facts
+pub header-facts : (s : List ℕ) → soundHeader s ≡ true → HeaderFacts s
+unfolding soundHeader
+header-facts s h =
+    let h1 = and-second (leb unitBytes (length s)) _ h in
+    let h2 = and-second (leb (length s) (2 ^ 32)) _ h1 in
+    record {
+      least = leb-true _ _ (and-first (leb unitBytes (length s)) _ h);
+      most = leb-true _ _ (and-first (leb (length s) (2 ^ 32)) _ h1);
+      kinds = eqb-true _ _ (and-first (eqb (num s 4 4) kind) _ h2);
+      zeros = eqb-true _ _ (and-second (eqb (num s 4 4) kind) _ h2);
+    }
+
+-- and the facts make it sound
+pub header-sound : (s : List ℕ) → HeaderFacts s → soundHeader s ≡ true
+unfolding soundHeader
+header-sound s f = simp (le-leb _ _ (f .least), le-leb _ _ (f .most), eq-eqb _ _ (f .kinds), eq-eqb _ _ (f .zeros))
+
+-- what a sound record is known for
+pub record RecordFacts (s : List ℕ) (a : ℕ) : Type 0 where
+  pub room : a + 16 ≤ length s
+  pub low : 1 ≤ labelAt s a
+  pub high : labelAt s a ≤ mostLabel
+  pub short : lengthAt s a ≤ mostRow
+  pub inside : endAt s a ≤ length s
+  pub ahead : (nextAt s a ≡ 0 → ⊥) → endAt s a ≤ unitBytes * nextAt s a
+
+-- x, or else y
+or-second : (x y : Bool) → x ≡ false → (x || y) ≡ true → y ≡ true
+or-second true y h i = absurd (true≢false h)
+or-second false y h i = i
+
+-- a sound record has the facts
+pub record-facts : (s : List ℕ) (a : ℕ) → soundRecord s a ≡ true → RecordFacts s a
+unfolding soundRecord
+record-facts s a h =
+    let h1 = and-second (leb (a + 16) (length s)) _ h in
+    let h2 = and-second (goodLabel (labelAt s a)) _ h1 in
+    let h3 = and-second (leb (lengthAt s a) mostRow) _ h2 in
+    let l = and-first (goodLabel (labelAt s a)) _ h1 in
+    record {
+      room = leb-true _ _ (and-first (leb (a + 16) (length s)) _ h);
+      low = leb-true _ _ (and-first (leb 1 (labelAt s a)) _ l);
+      high = leb-true _ _ (and-second (leb 1 (labelAt s a)) _ l);
+      short = leb-true _ _ (and-first (leb (lengthAt s a) mostRow) _ h2);
+      inside = leb-true _ _ (and-first (leb (endAt s a) (length s)) _ h3);
+      ahead = λ n. leb-true _ _ (or-second (eqb (nextAt s a) 0) _ (ne-eqb _ _ n) (and-second (leb (endAt s a) (length s)) _ h3));
+    }
+
+-- and the facts make it sound
+pub record-sound : (s : List ℕ) (a : ℕ) → RecordFacts s a → soundRecord s a ≡ true
+unfolding soundRecord
+record-sound s a f =
+    simp (le-leb _ _ (f .room), le-leb _ _ (f .low), le-leb _ _ (f .high), le-leb _ _ (f .short), le-leb _ _ (f .inside)) (go (eqb (nextAt s a) 0) refl)
+  where
+    go : (t : Bool) → eqb (nextAt s a) 0 ≡ t → (t || leb (endAt s a) (unitBytes * nextAt s a)) ≡ true
+    go true p = refl
+    go false p = le-leb _ _ (f .ahead (eqb-false _ _ p))
+
+-- a flag that tells the facts is the test
+pub tells-header : (s : List ℕ) (t : Bool) → (t ≡ true → HeaderFacts s) → (HeaderFacts s → t ≡ true) → t ≡ soundHeader s
+tells-header s t p q = decides t (soundHeader s) p q (header-facts s) (header-sound s)
+
+pub tells-record : (s : List ℕ) (a : ℕ) (t : Bool) → (t ≡ true → RecordFacts s a) → (RecordFacts s a → t ≡ true) → t ≡ soundRecord s a
+tells-record s a t p q = decides t (soundRecord s a) p q (record-facts s a) (record-sound s a)
+
+-- one fact that fails
+pub no-header : (s : List ℕ) → (HeaderFacts s → ⊥) → false ≡ soundHeader s
+no-header s n = tells-header s false (λ e. absurd (false≢true e)) (λ f. absurd (n f))
+
+pub no-record : (s : List ℕ) (a : ℕ) → (RecordFacts s a → ⊥) → false ≡ soundRecord s a
+no-record s a n = tells-record s a false (λ e. absurd (false≢true e)) (λ f. absurd (n f))
+
+-- ---- the walk of a chain
+-- the records from byte a on, where byte 0 ends the chain
+abbrev pub restFrom : ℕ → List ℕ → ℕ → List ℕ → Option (List ℕ)
+restFrom steps s a met = cond (eqb a 0) (some []) (chainFrom steps s a met)
+
+-- the end
+pub rest-end : (steps : ℕ) (s : List ℕ) (a : ℕ) (met : List ℕ) → a ≡ 0 → restFrom steps s a met ≡ some []
+rest-end steps s a met z = simp (eq-eqb _ _ z)
+
+-- a record that is not sound, or whose label was met
+pub rest-unsound : (steps : ℕ) (s : List ℕ) (a : ℕ) (met : List ℕ) → (a ≡ 0 → ⊥) → (soundRecord s a && not (among (labelAt s a) met)) ≡ false
+    → restFrom steps s a met ≡ none
+unfolding chainFrom
+rest-unsound zero s a met n h = simp (ne-eqb _ _ n, chainFrom)
+rest-unsound (suc steps) s a met n h = simp (ne-eqb _ _ n, h, chainFrom)
+
+-- no steps are left
+rest-zero : (s : List ℕ) (a : ℕ) (met : List ℕ) → (a ≡ 0 → ⊥) → restFrom zero s a met ≡ none
+unfolding chainFrom
+rest-zero s a met n = simp (ne-eqb _ _ n, chainFrom)
+
+-- the index zero is byte 0
+units-zero : (x : ℕ) → eqb (unitBytes * x) 0 ≡ eqb x 0
+units-zero x = go (eqb x 0) refl
+  where
+    go : (t : Bool) → eqb x 0 ≡ t → eqb (unitBytes * x) 0 ≡ t
+    go true p = eq-eqb (unitBytes * x) 0 (omega (arith, eqb-true x 0 p))
+    go false p = ne-eqb (unitBytes * x) 0 (λ z. eqb-false x 0 p (omega arith))
+
+-- one record more
+pub rest-more : (steps : ℕ) (s : List ℕ) (a : ℕ) (met : List ℕ) → (a ≡ 0 → ⊥) → soundRecord s a ≡ true → among (labelAt s a) met ≡ false
+    → restFrom (suc steps) s a met ≡ inFront a (restFrom steps s (unitBytes * nextAt s a) (labelAt s a ∷ met))
+unfolding chainFrom
+rest-more steps s a met n h i = simp (ne-eqb _ _ n, h, i, units-zero, chainFrom) (go (eqb (nextAt s a) 0) _)
+  where
+    go : (t : Bool) (o : Option (List ℕ)) → elim t [ true ↦ some (a ∷ []) | false ↦ inFront a o ] ≡ inFront a (cond t (some []) o)
+    go true o = refl
+    go false o = refl
+
+-- a chain whose header is not sound
+pub chain-unsound : (s : List ℕ) → soundHeader s ≡ false → chainOf s ≡ none
+unfolding chainOf
+chain-unsound s h = simp (h, chainOf)
+
+-- a chain whose header is sound
+pub chain-rest : (s : List ℕ) → soundHeader s ≡ true → chainOf s ≡ restFrom (length s) s (unitBytes * num s 0 4) []
+unfolding chainOf
+chain-rest s h = simp (h, units-zero, chainOf) (go (eqb (num s 0 4) 0) _)
+  where
+    go : (t : Bool) (o : Option (List ℕ)) → elim t [ true ↦ some [] | false ↦ o ] ≡ cond t (some []) o
+    go true o = refl
+    go false o = refl
+
+-- the records of a chain that stands at byte a, where the labels in `met` were met before
+pub data Links (s : List ℕ) : ℕ → List ℕ → List ℕ → Type 0 where
+  links-end : {met : List ℕ} → Links s 0 met []
+  links-more : {a : ℕ} {met bs : List ℕ} → (a ≡ 0 → ⊥) → RecordFacts s a → among (labelAt s a) met ≡ false
+      → Links s (unitBytes * nextAt s a) (labelAt s a ∷ met) bs → Links s a met (a ∷ bs)
+
+-- what a record in front leaves
+front-some : (a : ℕ) (o : Option (List ℕ)) (rs : List ℕ) → inFront a o ≡ some rs → (bs : List ℕ) × (o ≡ some bs) × (rs ≡ a ∷ bs)
+front-some a none rs e = let z : _≡_ {A = ℕ} 0 1 = cc in absurd (omega arith)
+front-some a (some bs) rs e = (bs, refl, cc)
+
+-- nothing is not something
+none-some : {B : Type 0} {A : Type 0} {o : Option A} {x : A} → o ≡ none → o ≡ some x → B
+none-some p q = let z : _≡_ {A = ℕ} 0 1 = cc in absurd (omega arith)
+
+-- at byte 0 the chain has ended
+at-end : (steps : ℕ) (s : List ℕ) (a : ℕ) (met rs : List ℕ) → restFrom steps s a met ≡ some rs → ((a ≡ 0 → ⊥) → Links s a met rs) → Links s a met rs
+at-end steps s a met rs e go-on = go (eqb a 0) refl
+  where
+    go : (t : Bool) → eqb a 0 ≡ t → Links s a met rs
+    go true p =
+        let z : a ≡ 0 = eqb-true _ _ p in
+        let r : rs ≡ [] = cc (rest-end steps s a met z) in
+        rw (z, r) links-end
+    go false p = go-on (eqb-false _ _ p)
+
+-- a walk that ends does not stop
+not-stopped : (steps : ℕ) (s : List ℕ) (a : ℕ) (met rs : List ℕ) → restFrom steps s a met ≡ some rs → (a ≡ 0 → ⊥)
+    → (soundRecord s a ≡ true) × (among (labelAt s a) met ≡ false)
+not-stopped steps s a met rs e n = go (soundRecord s a) (among (labelAt s a) met) refl refl
+  where
+    go : (t u : Bool) → soundRecord s a ≡ t → among (labelAt s a) met ≡ u → (soundRecord s a ≡ true) × (among (labelAt s a) met ≡ false)
+    go true false p q = (p, q)
+    go true true p q = none-some (rest-unsound steps s a met n (simp (p, q))) e
+    go false u p q = none-some (rest-unsound steps s a met n (simp p)) e
+
+-- a walk that ends has such records
+rest-links : (steps : ℕ) (s : List ℕ) (a : ℕ) (met rs : List ℕ) → restFrom steps s a met ≡ some rs → Links s a met rs
+rest-links zero s a met rs e = at-end zero s a met rs e (λ n. none-some (rest-zero s a met n) e)
+rest-links (suc k) s a met rs e =
+    at-end (suc k) s a met rs e (λ n.
+    let q = not-stopped (suc k) s a met rs e n in
+    let f = front-some a (restFrom k s (unitBytes * nextAt s a) (labelAt s a ∷ met)) rs (sym (rest-more k s a met n (q .0) (q .1)) ∙ e) in
+    rw (f .2) (links-more n (record-facts s a (q .0)) (q .1) (rest-links k s (unitBytes * nextAt s a) (labelAt s a ∷ met) (f .0) (f .1))))
+
+-- and such records make a walk that ends, with steps enough
+links-rest : {s : List ℕ} {a : ℕ} {met rs : List ℕ} (steps : ℕ) → Links s a met rs → ((a ≡ 0 → ⊥) → length s < a + steps) → restFrom steps s a met ≡ some rs
+links-rest {s} {a} {met} steps links-end enough = rest-end steps s 0 met refl
+links-rest {s} {a} {met} zero (links-more n f u l) enough = absurd (omega (arith, enough n, f .room))
+links-rest {s} {a} {met} (suc k) (links-more n f u l) enough =
+    rest-more k s a met n (record-sound s a f) u
+    ∙ ap (inFront a) (links-rest k l (λ m. omega (arith, enough n, f .ahead (λ z. m (omega arith)))))
+
+-- a sound chain is a sound header and such records from the first on
+pub chain-links : (s rs : List ℕ) → chainOf s ≡ some rs → HeaderFacts s × Links s (unitBytes * num s 0 4) [] rs
+chain-links s rs e = go (soundHeader s) refl
+  where
+    go : (t : Bool) → soundHeader s ≡ t → HeaderFacts s × Links s (unitBytes * num s 0 4) [] rs
+    go true p = (header-facts s p, rest-links (length s) s (unitBytes * num s 0 4) [] rs (sym (chain-rest s p) ∙ e))
+    go false p = none-some (chain-unsound s p) e
+
+-- and the other way round
+pub links-chain : (s rs : List ℕ) → HeaderFacts s → Links s (unitBytes * num s 0 4) [] rs → chainOf s ≡ some rs
+links-chain s rs h l = chain-rest s (header-sound s h) ∙ links-rest (length s) l (λ n. omega arith)
+
+-- ---- what the records of a sound chain are known for
+-- a record of a chain: sound, at a unit, past the header
+pub record Placed (s : List ℕ) (a : ℕ) : Type 0 where
+  pub facts : RecordFacts s a
+  pub unit : a % 16 ≡ 0
+  pub past : 16 ≤ a
+
+-- each record
+links-each : {s : List ℕ} {a : ℕ} {met rs : List ℕ} → Links s a met rs → a % 16 ≡ 0 → (i : ℕ) → i < length rs → Placed s (getD rs i 0)
+links-each links-end z i l = absurd (omega arith)
+links-each (links-more n f u k) z zero l = record { facts = f; unit = z; past = omega arith }
+links-each (links-more n f u k) z (suc i) l = links-each k (omega arith) i (omega arith)
+
+-- where there is a record, the chain has not ended
+links-some : {s : List ℕ} {a : ℕ} {met rs : List ℕ} → Links s a met rs → (j : ℕ) → j < length rs → a ≡ 0 → ⊥
+links-some links-end j l = absurd (omega arith)
+links-some (links-more n f u k) j l = n
+
+-- a record ends before the next one
+links-ahead : {s : List ℕ} {a : ℕ} {met bs : List ℕ} → RecordFacts s a → Links s (unitBytes * nextAt s a) met bs → (j : ℕ) → j < length bs
+    → endAt s a ≤ unitBytes * nextAt s a
+links-ahead f k j l = f .ahead (λ z. links-some k j l (omega arith))
+
+-- no record is before the first
+links-from : {s : List ℕ} {a : ℕ} {met rs : List ℕ} → Links s a met rs → (j : ℕ) → j < length rs → a ≤ getD rs j 0
+links-from links-end j l = absurd (omega arith)
+links-from (links-more n f u k) zero l = omega arith
+links-from (links-more n f u k) (suc j) l = omega (arith, links-ahead f k j (omega arith), links-from k j (omega arith))
+
+-- nor before the end of an earlier one
+links-order : {s : List ℕ} {a : ℕ} {met rs : List ℕ} → Links s a met rs → (i j : ℕ) → i < j → j < length rs → endAt s (getD rs i 0) ≤ getD rs j 0
+links-order links-end i j h l = absurd (omega arith)
+links-order (links-more n f u k) i zero h l = absurd (omega arith)
+links-order (links-more n f u k) zero (suc j) h l = omega (arith, links-ahead f k j (omega arith), links-from k j (omega arith))
+links-order (links-more n f u k) (suc i) (suc j) h l = links-order k i j (omega arith) (omega arith)
+
+-- not in a list: not its first
+pub among-first : (x y : ℕ) (ys : List ℕ) → among x (y ∷ ys) ≡ false → x ≡ y → ⊥
+unfolding among
+among-first x y ys h = eqb-false x y (or-first (eqb x y) _ h)
+  where
+    or-first : (t u : Bool) → (t || u) ≡ false → t ≡ false
+    or-first true u p = p
+    or-first false u p = refl
+
+-- and not in the rest
+pub among-rest : (x y : ℕ) (ys : List ℕ) → among x (y ∷ ys) ≡ false → among x ys ≡ false
+unfolding among
+among-rest x y ys h = or-rest (eqb x y) _ h
+  where
+    or-rest : (t u : Bool) → (t || u) ≡ false → u ≡ false
+    or-rest true u p = absurd (true≢false p)
+    or-rest false u p = p
+
+-- no label was met before
+links-unmet : {s : List ℕ} {a : ℕ} {met rs : List ℕ} → Links s a met rs → (j : ℕ) → j < length rs → among (labelAt s (getD rs j 0)) met ≡ false
+links-unmet links-end j l = absurd (omega arith)
+links-unmet (links-more n f u k) zero l = u
+links-unmet (links-more n f u k) (suc j) l = among-rest _ _ _ (links-unmet k j (omega arith))
+
+-- labels differ
+links-differ : {s : List ℕ} {a : ℕ} {met rs : List ℕ} → Links s a met rs → (i j : ℕ) → i < j → j < length rs
+    → labelAt s (getD rs i 0) ≡ labelAt s (getD rs j 0) → ⊥
+links-differ links-end i j h l = absurd (omega arith)
+links-differ (links-more n f u k) i zero h l = absurd (omega arith)
+links-differ (links-more n f u k) zero (suc j) h l = λ e. among-first _ _ _ (links-unmet k j (omega arith)) (sym e)
+links-differ (links-more n f u k) (suc i) (suc j) h l = links-differ k i j (omega arith) (omega arith)
+
+-- what the end of a chain is known for
+pub record EndFacts (s rs : List ℕ) : Type 0 where
+  pub unit : endOf s rs % 16 ≡ 0
+  pub past : linkOf rs + 16 ≤ endOf s rs
+  pub inside : endOf s rs ≤ length s
+
+-- with no record
+end-none : (s : List ℕ) → HeaderFacts s → EndFacts s []
+unfolding endOf linkOf
+end-none s h = record { unit = omega arith; past = omega arith; inside = h .least }
+
+-- with one record more in front
+end-more : (s : List ℕ) (a : ℕ) (bs : List ℕ) → RecordFacts s a → a % 16 ≡ 0 → EndFacts s bs → EndFacts s (a ∷ bs)
+unfolding endOf linkOf
+end-more s a [] f z e = record { unit = omega arith; past = omega arith; inside = f .inside }
+end-more s a (b ∷ bs) f z e = record { unit = e .unit; past = e .past; inside = e .inside }
+
+-- of all records
+links-ended : {s : List ℕ} {a : ℕ} {met rs : List ℕ} → HeaderFacts s → Links s a met rs → a % 16 ≡ 0 → EndFacts s rs
+links-ended {s} h links-end z = end-none s h
+links-ended {s} {a} h (links-more n f u k) z = end-more s a _ f z (links-ended h k (omega arith))
+
+-- the end of more records than one
+end-rest : (s : List ℕ) (a : ℕ) (bs : List ℕ) → 0 < length bs → endOf s (a ∷ bs) ≡ endOf s bs
+unfolding endOf
+end-rest s a [] l = absurd (omega arith)
+end-rest s a (b ∷ bs) l = refl
+
+-- the first record ends by the end of the last
+end-first : (s : List ℕ) (a : ℕ) (bs : List ℕ) → (0 < length bs → endAt s a ≤ endOf s bs) → endAt s a ≤ endOf s (a ∷ bs)
+unfolding endOf
+end-first s a [] h = omega arith
+end-first s a (b ∷ bs) h = h (omega arith)
+
+-- and so does each
+links-within : {s : List ℕ} {a : ℕ} {met rs : List ℕ} → Links s a met rs → (i : ℕ) → i < length rs → endAt s (getD rs i 0) ≤ endOf s rs
+links-within links-end i l = absurd (omega arith)
+links-within {s} (links-more {a} {met} {bs} n f u k) zero l =
+    end-first s a bs (λ m. omega (arith, links-order (links-more n f u k) 0 1 (omega arith) (omega arith), links-within k 0 m))
+links-within {s} (links-more {a} {met} {bs} n f u k) (suc i) l = rw (end-rest s a bs (omega arith)) (links-within k i (omega arith))
+
+-- what the records of a sound chain are known for, by their places in the chain
+pub record ChainFacts (s rs : List ℕ) : Type 0 where
+  pub header : HeaderFacts s
+  pub each : (i : ℕ) → i < length rs → Placed s (getD rs i 0)
+  pub order : (i j : ℕ) → i < j → j < length rs → endAt s (getD rs i 0) ≤ getD rs j 0
+  pub differ : (i j : ℕ) → i < j → j < length rs → labelAt s (getD rs i 0) ≡ labelAt s (getD rs j 0) → ⊥
+  pub within : (i : ℕ) → i < length rs → endAt s (getD rs i 0) ≤ endOf s rs
+  pub ended : EndFacts s rs
+
+-- a sound chain has the facts
+pub chain-facts : (s rs : List ℕ) → chainOf s ≡ some rs → ChainFacts s rs
+chain-facts s rs e =
+    let k = chain-links s rs e in
+    record {
+      header = k .0;
+      each = links-each (k .1) (omega arith);
+      order = links-order (k .1);
+      differ = links-differ (k .1);
+      within = links-within (k .1);
+      ended = links-ended (k .0) (k .1) (omega arith);
+    }
+
+-- ---- the record of a label
+-- one of the records, with that label
+pub record Found (s rs : List ℕ) (label a : ℕ) : Type 0 where
+  pub index : ℕ
+  pub within : index < length rs
+  pub here : getD rs index 0 ≡ a
+  pub its : labelAt s a ≡ label
+
+-- the place of a label is such a record
+pub place-found : (s : List ℕ) (label : ℕ) (rs : List ℕ) (a : ℕ) → placeOf s label rs ≡ some a → Found s rs label a
+unfolding placeOf
+place-found s label [] a e = none-some refl e
+place-found s label (b ∷ bs) a e = go (eqb (labelAt s b) label) refl e (place-found s label bs a)
+  where
+    go : (t : Bool) → eqb (labelAt s b) label ≡ t → cond t (some b) (placeOf s label bs) ≡ some a → (placeOf s label bs ≡ some a → Found s bs label a)
+        → Found s (b ∷ bs) label a
+    go true p q later =
+        let z : b ≡ a = cc in
+        record { index = 0; within = omega arith; here = z; its = ap (labelAt s) (sym z) ∙ eqb-true _ _ p }
+    go false p q later = let f = later q in record { index = suc (f .index); within = omega (arith, f .within); here = f .here; its = f .its }
+
+-- no record has the label
+pub place-none : (s : List ℕ) (label : ℕ) (rs : List ℕ) → placeOf s label rs ≡ none → (i : ℕ) → i < length rs → labelAt s (getD rs i 0) ≡ label → ⊥
+unfolding placeOf
+place-none s label [] e i l = absurd (omega arith)
+place-none s label (b ∷ bs) e i l = go (eqb (labelAt s b) label) refl e i l (place-none s label bs)
+  where
+    go : (t : Bool) → eqb (labelAt s b) label ≡ t → cond t (some b) (placeOf s label bs) ≡ none → (i : ℕ) → i < length (b ∷ bs)
+        → (placeOf s label bs ≡ none → (i : ℕ) → i < length bs → labelAt s (getD bs i 0) ≡ label → ⊥) → labelAt s (getD (b ∷ bs) i 0) ≡ label → ⊥
+    go true p q i l later = none-some q refl
+    go false p q zero l later = eqb-false _ _ p
+    go false p q (suc i) l later = later q i (omega arith)
+
+-- the records of one list, then of another
+pub place-append : (s : List ℕ) (label : ℕ) (xs ys : List ℕ) → placeOf s label (xs ++ ys) ≡ orElse (placeOf s label xs) (placeOf s label ys)
+unfolding placeOf
+place-append s label [] ys = refl
+place-append s label (a ∷ xs) ys = go (eqb (labelAt s a) label) (place-append s label xs ys)
+  where
+    go : (t : Bool) → placeOf s label (xs ++ ys) ≡ orElse (placeOf s label xs) (placeOf s label ys)
+        → cond t (some a) (placeOf s label (xs ++ ys)) ≡ orElse (cond t (some a) (placeOf s label xs)) (placeOf s label ys)
+    go true e = refl
+    go false e = e
+
+-- the index that ends the chain stands in the last record
+pub link-last : (xs : List ℕ) (a : ℕ) → linkOf (xs ++ (a ∷ [])) ≡ a
+unfolding linkOf
+link-last [] a = refl
+link-last (b ∷ []) a = refl
+link-last (b ∷ c ∷ cs) a = link-last (c ∷ cs) a
+
+-- and the chain ends where that one ends
+pub end-last : (s xs : List ℕ) (a : ℕ) → endOf s (xs ++ (a ∷ [])) ≡ endAt s a
+unfolding endOf
+end-last s [] a = refl
+end-last s (b ∷ []) a = refl
+end-last s (b ∷ c ∷ cs) a = end-last s (c ∷ cs) a
+
+-- ---- opening a row
+-- a label is good from 1 to 64
+pub label-good : (n : ℕ) → 1 ≤ n → n ≤ mostLabel → goodLabel n ≡ true
+label-good n p q = simp (le-leb 1 n p, le-leb n mostLabel q)
+
+-- none below
+pub label-low : (n : ℕ) → n < 1 → goodLabel n ≡ false
+label-low n p = simp (lt-leb 1 n p)
+
+-- none above
+pub label-high : (n : ℕ) → mostLabel < n → goodLabel n ≡ false
+label-high n p = simp (lt-leb n mostLabel p, and-false)
+
+-- 10 the chain is not sound
+pub open-unsound : (s : List ℕ) (label : ℕ) → chainOf s ≡ none → refused 10 ≡ openTold s label
+open-unsound s label e = simp e
+
+-- 11 the label is not 1 to 64
+pub open-label : (s : List ℕ) (label : ℕ) (rs : List ℕ) → chainOf s ≡ some rs → goodLabel label ≡ false → refused 11 ≡ openTold s label
+open-label s label rs e g = simp (e, g)
+
+-- 14 the label is absent
+pub open-absent : (s : List ℕ) (label : ℕ) (rs : List ℕ) → chainOf s ≡ some rs → goodLabel label ≡ true → placeOf s label rs ≡ none
+    → refused 14 ≡ openTold s label
+open-absent s label rs e g p = simp (e, g, p)
+
+-- else the record's start
+pub open-value : (s : List ℕ) (label : ℕ) (rs : List ℕ) (a : ℕ) → chainOf s ≡ some rs → goodLabel label ≡ true → placeOf s label rs ≡ some a
+    → value a ≡ openTold s label
+open-value s label rs a e g p = simp (e, g, p)
+
+-- what an opened row is known for
+pub record Opened (s : List ℕ) (label : ℕ) : Type 0 where
+  pub chain : chainOf s ≡ some (recordsOf s)
+  pub low : 1 ≤ label
+  pub high : label ≤ mostLabel
+  pub found : recordWith s label ≡ some (placeIs s label)
+  pub its : labelAt s (placeIs s label) ≡ label
+  pub placed : Placed s (placeIs s label)
+
+-- a chain that is there has its records
+some-in : (o : Option (List ℕ)) → isSome o ≡ true → o ≡ some (recordsIn o)
+some-in none h = absurd (false≢true h)
+some-in (some rs) h = refl
+
+-- a place that is there
+some-place : (o : Option ℕ) → isSome o ≡ true → o ≡ some (placeIn 0 o)
+some-place none h = absurd (false≢true h)
+some-place (some a) h = refl
+
+-- a record with the label is a record of the chain
+pub found-placed : (s rs : List ℕ) (label a : ℕ) → ChainFacts s rs → Found s rs label a → Placed s a
+found-placed s rs label a f k = subst (Placed s) (k .here) (f .each (k .index) (k .within))
+
+-- a row whose opening no line refuses
+pub opened : (s : List ℕ) (label : ℕ) → judge (openTable s label) ≡ none → Opened s label
+opened s label e =
+    let w = passes (openTable s label) e in
+    let g = not-not (goodLabel label) (w .1 .0) in
+    let c : chainOf s ≡ some (recordsOf s) = some-in (chainOf s) (not-not _ (w .0)) in
+    let p : recordWith s label ≡ some (placeIs s label) = some-place (recordWith s label) (not-not _ (w .1 .1 .0)) in
+    let k = place-found s label (recordsOf s) (placeIs s label) p in
+    record {
+      chain = c;
+      low = leb-true _ _ (and-first (leb 1 label) (leb label mostLabel) g);
+      high = leb-true _ _ (and-second (leb 1 label) (leb label mostLabel) g);
+      found = p;
+      its = k .its;
+      placed = found-placed s (recordsOf s) label (placeIs s label) (chain-facts s (recordsOf s) c) k;
+    }
+
+-- a value says that no line applies
+value-told : (v : Option ℕ) (x y : ℕ) → value x ≡ unless v refused (value y) → (v ≡ none) × (x ≡ y)
+value-told none x y e = (refl, cc)
+value-told (some n) x y e = let z : _≡_ {A = ℕ} 0 1 = cc in absurd (omega arith)
+
+-- a refusal says which line does
+refused-told : (v : Option ℕ) (n y : ℕ) → refused n ≡ unless v refused (value y) → v ≡ some n
+refused-told none n y e = let z : _≡_ {A = ℕ} 0 1 = cc in absurd (omega arith)
+refused-told (some m) n y e = cc
+
+-- an opening that answers a value is not refused, and the value is the row's place
+pub opened-value : (s : List ℕ) (label : ℕ) (o : Answer) (at : ℕ) → toldOf o ≡ openTold s label → o ≡ Value at
+    → (judge (openTable s label) ≡ none) × (at ≡ placeIs s label)
+opened-value s label o at e d = value-told (judge (openTable s label)) at (placeIs s label) (sym (ap toldOf d) ∙ e)
+
+-- an opening that answers a refusal
+pub opened-refused : (s : List ℕ) (label : ℕ) (o : Answer) (r : Refusal) → toldOf o ≡ openTold s label → o ≡ Refused r
+    → judge (openTable s label) ≡ some (numberOf r)
+opened-refused s label o r e d = refused-told (judge (openTable s label)) (numberOf r) (placeIs s label) (sym (ap toldOf d) ∙ e)
+
+-- an opened row's record
+pub opened-record : (s : List ℕ) (label : ℕ) (o : Answer) (at : ℕ) → toldOf o ≡ openTold s label → o ≡ Value at → RecordFacts s at
+opened-record s label o at e d =
+    let k = opened-value s label o at e d in
+    subst (RecordFacts s) (sym (k .1)) (opened s label (k .0) .placed .facts)
+
+-- the part of a refused opening
+pub part-refused : (s : List ℕ) (label : ℕ) (o : Answer) (r : Refusal) → toldOf o ≡ openTold s label → o ≡ Refused r → [] ≡ openPart s label
+part-refused s label o r e d =
+    ap (λ (v : Option ℕ). unless v (λ n. []) (partAt s (placeIs s label))) (sym (opened-refused s label o r e d))
+
+-- the part of an opened row
+pub part-opened : (s : List ℕ) (label : ℕ) (o : Answer) (at : ℕ) → toldOf o ≡ openTold s label → o ≡ Value at → partAt s at ≡ openPart s label
+part-opened s label o at e d =
+    let k = opened-value s label o at e d in
+    ap (partAt s) (k .1) ∙ ap (λ (v : Option ℕ). unless v (λ n. []) (partAt s (placeIs s label))) (sym (k .0))
+
+-- a part from a to a + n
+pub part-taken : (s : List ℕ) (a n m : ℕ) → n ≡ m → take (a + n - a) (drop a s) ≡ take m (drop a s)
+part-taken s a n m e = let z : a + n - a ≡ m = omega arith in simp z

@@ -1,0 +1,648 @@
+-- Bits as bytes, the record of a strip, and its stores. Assumes nothing.
+use mathlib.Core.Path.{_≡_, refl, sym, ap, ap₂, _∙_, subst}
+use mathlib.Core.Logic.{⊎-elim}
+use mathlib.Core.List.{List, [], _∷_, _++_, append-assoc, append-nil}
+use Prim.Native.Nat.{ℕ, zero, suc, min, _+_, _-_, _*_, _/_, _%_, _^_, _≤_, _<_}
+use native.Mathlib.Nat.{one-mul, mod-lt, mod-eq-of-lt, zero-lt-suc, pow-zero, pow-succ', mul-suc, mul-zero, mul-le-mul-left}
+use native.Mathlib.Omega.{arith}
+use lib.Arith as A
+use lib.Bits.{bitAnd, and-mask}
+use lib.Dec.{lit<}
+use lib.Pow.{pow-pos}
+use lib.ListN.{length, set, drop, getD, length-set, length-append, List·getD-append, List·getD-eq-default}
+use lib.Seq.{sets, length-sets, ext-getD, getD-set-same, getD-set-other, drop-drop, drop-append-seam, getD-drop}
+use Rattle.words.specs.Bits.{bit, bitAt, ones, digits, listOf}
+use Rattle.words.specs.Strip.{cell, stripOf, rank, rankOf}
+use Rattle.words.proofs.Sums.{lt-or, ones-zero, ones-split, ones-ext, ones-le, length-listOf, getD-listOf, ones-const}
+use Rattle.words.proofs.BitLaws.{bit-shr, bit-mod, bit-high}
+use Rattle.words.proofs.WordLaws.{word-bit, bitAt-le}
+use Rattle.words.proofs.DigitLaws.{field, digits-ext, digits-at, digits-of}
+use Rattle.words.proofs.SearchLaws.{rank-ones}
+use Rattle.words.proofs.StripLaws.{strip-cell, strip-length}
+use Rattle.counters.proofs.SpliceLaws.{set-more}
+use Rattle.image.specs.Bytes.{num, le, bitFrom}
+use Rattle.image.specs.Layout.{blocksOf, bitsStart, sizeOf, entryOf, entriesFrom, bytesOf, recordOf, kind}
+use Rattle.image.specs.Rows.{rowBits, Right}
+use Rattle.image.specs.Chain.{headerOf}
+use Rattle.image.specs.Writing.{wordBits, BitsPut, blockEntry, BlockPut, RowPut}
+use Rattle.image.proofs.PutLaws.{length-le, le-small, num-of, sets-join, sets-comm, sets-front, put-join}
+
+-- ---- lists by their elements
+-- equal elements, equal lists
+pub listOf-ext : (f g : ℕ → ℕ) (n : ℕ) → ((i : ℕ) → i < n → f i ≡ g i) → listOf f n ≡ listOf g n
+unfolding listOf
+listOf-ext f g zero h = refl
+listOf-ext f g (suc n) h =
+    ap₂ (λ (x : ℕ) (l : List ℕ). x ∷ l) (h 0 (omega arith)) (listOf-ext (λ i. f (suc i)) (λ i. g (suc i)) n (λ i l. h (suc i) (omega arith)))
+
+-- the first m elements, then those after them
+pub listOf-append : (f : ℕ → ℕ) (m n : ℕ) → listOf f (m + n) ≡ listOf f m ++ listOf (λ i. f (m + i)) n
+unfolding listOf
+listOf-append f zero n =
+    let e : zero + n ≡ n = omega arith in
+    ap (listOf f) e ∙ listOf-ext f (λ i. f (zero + i)) n (λ i l. ap f (omega arith))
+listOf-append f (suc m) n =
+    let e : suc m + n ≡ suc (m + n) = omega arith in
+    ap (listOf f) e
+    ∙ ap (λ (l : List ℕ). f 0 ∷ l)
+    (listOf-append (λ i. f (suc i)) m n
+    ∙ ap (λ (l : List ℕ). listOf (λ i. f (suc i)) m ++ l) (listOf-ext (λ i. f (suc (m + i))) (λ i. f (suc m + i)) n (λ i l. ap f (omega arith))))
+
+-- ---- a byte of bits
+-- digits are below the power of their base
+pub digits-lt : (b : ℕ) (g : ℕ → ℕ) (n : ℕ) → ((i : ℕ) → i < n → g i < b) → digits b g n < b ^ n
+unfolding digits
+digits-lt b g zero h = omega (arith, pow-zero b)
+digits-lt b g (suc n) h =
+    let d : ℕ = digits b (λ j. g (suc j)) n in
+    let ih : suc d ≤ b ^ n = digits-lt b (λ j. g (suc j)) n (λ i l. h (suc i) (omega arith)) in
+    let k : b * suc d ≤ b * b ^ n = mul-le-mul-left b ih in
+    omega (arith, k, h 0 (omega arith), mul-suc b d, pow-succ' b n)
+
+-- bit q of a number by its bits
+pub digits-bit : (g : ℕ → ℕ) (n q : ℕ) → ((i : ℕ) → g i ≤ 1) → q < n → bit (digits 2 g n) q ≡ g q
+digits-bit g n q h l =
+    ap (λ (e : ℕ). digits 2 g n / 2 ^ e % 2) (sym (one-mul q)) ∙ digits-at 1 g n q (λ i k. omega (arith, h i)) l
+
+-- a byte is the byte of its bits
+pub byte-digits : (x : ℕ) → x < 256 → digits 2 (bit x) 8 ≡ x
+byte-digits x h =
+    digits-ext 2 (bit x) (field 1 x) 8 (λ i l. ap (λ (e : ℕ). x / 2 ^ e % 2) (sym (one-mul i))) ∙ sym (digits-of 1 8 x h)
+
+-- ---- bytes of bits
+-- their number
+pub length-bytes : (f : ℕ → ℕ) (n : ℕ) → length (bytesOf f n) ≡ n
+length-bytes f n = length-listOf (λ b. digits 2 (λ j. f (8 * b + j)) 8) n
+
+-- byte i
+pub bytes-at : (f : ℕ → ℕ) (n i : ℕ) → i < n → getD (bytesOf f n) i 0 ≡ digits 2 (λ j. f (8 * i + j)) 8
+bytes-at f n i h = getD-listOf (λ b. digits 2 (λ j. f (8 * b + j)) 8) n i h
+
+-- equal bits, equal bytes
+pub bytes-ext : (f g : ℕ → ℕ) (n : ℕ) → ((p : ℕ) → p < 8 * n → f p ≡ g p) → bytesOf f n ≡ bytesOf g n
+bytes-ext f g n h =
+    listOf-ext (λ b. digits 2 (λ j. f (8 * b + j)) 8) (λ b. digits 2 (λ j. g (8 * b + j)) 8) n
+    (λ b l. digits-ext 2 (λ j. f (8 * b + j)) (λ j. g (8 * b + j)) 8 (λ j k. h (8 * b + j) (omega arith)))
+
+-- the first m bytes, then those from bit 8 m on
+pub bytes-append : (f : ℕ → ℕ) (m n : ℕ) → bytesOf f (m + n) ≡ bytesOf f m ++ bytesOf (λ p. f (8 * m + p)) n
+bytes-append f m n =
+    listOf-append (λ b. digits 2 (λ j. f (8 * b + j)) 8) m n
+    ∙ ap (λ (l : List ℕ). bytesOf f m ++ l)
+    (listOf-ext (λ b. digits 2 (λ j. f (8 * (m + b) + j)) 8) (λ b. digits 2 (λ j. f (8 * m + (8 * b + j))) 8) n
+    (λ b l. digits-ext 2 (λ j. f (8 * (m + b) + j)) (λ j. f (8 * m + (8 * b + j))) 8 (λ j k. ap f (omega arith))))
+
+-- the bits of the bytes of bits
+pub bytes-bit : (f : ℕ → ℕ) (n p : ℕ) → ((q : ℕ) → f q ≤ 1) → p < 8 * n → bitFrom (bytesOf f n) 0 p ≡ f p
+bytes-bit f n p h l =
+    let e : 0 + p / 8 ≡ p / 8 = omega arith in
+    let i : 8 * (p / 8) + p % 8 ≡ p = omega arith in
+    ap (λ (k : ℕ). bit (getD (bytesOf f n) k 0) (p % 8)) e
+    ∙ ap (λ (x : ℕ). bit x (p % 8)) (bytes-at f n (p / 8) (omega arith))
+    ∙ digits-bit (λ j. f (8 * (p / 8) + j)) 8 (p % 8) (λ j. h (8 * (p / 8) + j)) (omega arith)
+    ∙ ap f i
+
+-- each is a byte
+pub bytes-small : (f : ℕ → ℕ) (n i : ℕ) → ((q : ℕ) → f q ≤ 1) → getD (bytesOf f n) i 0 < 256
+bytes-small f n i h = ⊎-elim inside past (lt-or i n)
+  where
+    inside : i < n → getD (bytesOf f n) i 0 < 256
+    inside l =
+        subst (λ (x : ℕ). x < 256) (sym (bytes-at f n i l)) (digits-lt 2 (λ j. f (8 * i + j)) 8 (λ j k. omega (arith, h (8 * i + j))))
+
+    past : n ≤ i → getD (bytesOf f n) i 0 < 256
+    past l = subst (λ (x : ℕ). x < 256) (sym (List·getD-eq-default (bytesOf f n) 0 {n = i} (omega (arith, length-bytes f n)))) (lit< tt)
+
+-- the low bytes of a number are the bytes of its bits
+pub le-bytes : (n x : ℕ) (f : ℕ → ℕ) → ((p : ℕ) → p < 8 * n → bit x p ≡ f p) → le n x ≡ bytesOf f n
+unfolding le listOf
+le-bytes zero x f h = refl
+le-bytes (suc n) x f h =
+    ap₂ (λ (y : ℕ) (l : List ℕ). y ∷ l)
+    (sym (byte-digits (x % 256) (mod-lt x (zero-lt-suc 255)))
+    ∙ digits-ext 2 (bit (x % 256)) (λ j. f (8 * 0 + j)) 8 (λ j l. bit-mod x 8 j l ∙ h j (omega arith) ∙ ap f (omega arith)))
+    (le-bytes n (x / 256) (λ p. f (8 + p)) (λ p l. bit-shr x 8 p ∙ h (8 + p) (omega arith))
+    ∙ listOf-ext (λ b. digits 2 (λ j. f (8 + (8 * b + j))) 8) (λ b. digits 2 (λ j. f (8 * suc b + j)) 8) n
+    (λ b l. digits-ext 2 (λ j. f (8 + (8 * b + j))) (λ j. f (8 * suc b + j)) 8 (λ j k. ap f (omega arith))))
+
+-- ---- entries
+-- their bytes
+pub length-entries : (f : ℕ → ℕ) (e n : ℕ) → length (entriesFrom f e n) ≡ 16 * n
+unfolding entriesFrom
+length-entries f e zero = omega arith
+length-entries f e (suc n) =
+    length-append (le 16 (entryOf f e)) (entriesFrom f (suc e) n) ∙ omega (arith, length-le 16 (entryOf f e), length-entries f (suc e) n)
+
+-- the first m entries, then those after them
+pub entries-append : (f : ℕ → ℕ) (e m n : ℕ) → entriesFrom f e (m + n) ≡ entriesFrom f e m ++ entriesFrom f (e + m) n
+unfolding entriesFrom
+entries-append f e zero n =
+    let i : zero + n ≡ n = omega arith in
+    let j : e ≡ e + zero = omega arith in
+    ap (entriesFrom f e) i ∙ ap (λ (k : ℕ). entriesFrom f k n) j
+entries-append f e (suc m) n =
+    let i : suc m + n ≡ suc (m + n) = omega arith in
+    let j : suc e + m ≡ e + suc m = omega arith in
+    ap (entriesFrom f e) i
+    ∙ ap (λ (l : List ℕ). le 16 (entryOf f e) ++ l) (entries-append f (suc e) m n ∙ ap (λ (k : ℕ). entriesFrom f (suc e) m ++ entriesFrom f k n) j)
+    ∙ sym (append-assoc (le 16 (entryOf f e)) (entriesFrom f (suc e) m) (entriesFrom f (e + suc m) n))
+
+-- one entry
+entries-one : (f : ℕ → ℕ) (e : ℕ) → entriesFrom f e 1 ≡ le 16 (entryOf f e)
+unfolding entriesFrom
+entries-one f e = append-nil (le 16 (entryOf f e))
+
+-- an entry fits its 16 bytes
+pub entry-lt : (f : ℕ → ℕ) (e : ℕ) → ((p : ℕ) → f p ≤ 1) → 4096 * e < 2 ^ 44 → entryOf f e < 2 ^ 128
+unfolding entryOf
+entry-lt f e b h =
+    let g : ℕ → ℕ = λ j. ones (λ p. f (4096 * e + p)) (512 * (j + 1)) in
+    go (ones f (4096 * e)) (digits (2 ^ 12) g 7) (omega (arith, ones-le f (4096 * e) b))
+    (digits-lt (2 ^ 12) g 7 (λ i l. omega (arith, ones-le (λ p. f (4096 * e + p)) (512 * (i + 1)) (λ p. b (4096 * e + p)))))
+  where
+    go : (a d : ℕ) → a < 2 ^ 44 → d < 2 ^ 84 → a + 2 ^ 44 * d < 2 ^ 128
+    go a d h k =
+        let e : d * 2 ^ 44 + a ≡ a + 2 ^ 44 * d = omega arith in
+        subst (λ (x : ℕ). x < 2 ^ 128) e (A.digits-lt {q = d} {m = 2 ^ 84} {r = a} {c = 2 ^ 44} k h)
+
+-- ---- the pieces of a list of bytes, from the front
+-- what follows a piece
+pub piece-after : (s xs ys : List ℕ) (at n m : ℕ) → length xs ≡ n → drop at s ≡ xs ++ ys → at + n ≡ m → drop m s ≡ ys
+piece-after s xs ys at n m l e i =
+    ap (λ (k : ℕ). drop k s) (sym i) ∙ sym (drop-drop n at s) ∙ ap (drop n) e ∙ ap (λ (k : ℕ). drop k (xs ++ ys)) (sym l) ∙ drop-append-seam xs ys
+
+-- a byte of a piece
+pub piece-at : (s xs ys : List ℕ) (at i : ℕ) → drop at s ≡ xs ++ ys → i < length xs → getD s (at + i) 0 ≡ getD xs i 0
+piece-at s xs ys at i e h = sym (getD-drop at s i 0) ∙ ap (λ (l : List ℕ). getD l i 0) e ∙ List·getD-append xs ys 0 i h
+
+-- a number
+pub piece-num : (s ys : List ℕ) (at n v : ℕ) → drop at s ≡ le n v ++ ys → num s at n ≡ v % 256 ^ n
+piece-num s ys at n v e = num-of s at n v (λ i l. piece-at s (le n v) ys at i e (omega (arith, length-le n v)))
+
+-- an entry among entries
+pub piece-entry : (s ys : List ℕ) (at : ℕ) (f : ℕ → ℕ) (n e : ℕ) → drop at s ≡ entriesFrom f 0 n ++ ys → e < n → num s (at + 16 * e) 16 ≡ entryOf f e % 2 ^ 128
+piece-entry s ys at f n e h l =
+    let m : ℕ = n - (e + 1) in
+    let i : e + (1 + m) ≡ n = omega arith in
+    let z : 0 + e ≡ e = omega arith in
+    let xs : List ℕ = entriesFrom f 0 e in
+    let y : List ℕ = le 16 (entryOf f e) in
+    let zs : List ℕ = entriesFrom f (e + 1) m in
+    let tail : entriesFrom f (0 + e) (1 + m) ≡ y ++ zs =
+    ap (λ (k : ℕ). entriesFrom f k (1 + m)) z ∙ entries-append f e 1 m ∙ ap (λ (q : List ℕ). q ++ zs) (entries-one f e) in
+    let all : entriesFrom f 0 n ≡ xs ++ (y ++ zs) = ap (entriesFrom f 0) (sym i) ∙ entries-append f 0 e (1 + m) ∙ ap (λ (q : List ℕ). xs ++ q) tail in
+    let d : drop at s ≡ xs ++ (y ++ (zs ++ ys)) = h ∙ ap (λ (q : List ℕ). q ++ ys) all ∙ simp append-assoc in
+    piece-num s (zs ++ ys) (at + 16 * e) 16 (entryOf f e)
+    (piece-after s xs (y ++ (zs ++ ys)) at (16 * e) (at + 16 * e) (length-entries f 0 e) d refl)
+
+-- a bit among bytes of bits
+pub piece-bit : (s ys : List ℕ) (at : ℕ) (f : ℕ → ℕ) (n p : ℕ) → ((q : ℕ) → f q ≤ 1) → drop at s ≡ bytesOf f n ++ ys → p < 8 * n → bitFrom s at p ≡ f p
+piece-bit s ys at f n p h e l =
+    let z : p / 8 ≡ 0 + p / 8 = omega arith in
+    ap (λ (x : ℕ). bit x (p % 8))
+    (piece-at s (bytesOf f n) ys at (p / 8) e (omega (arith, length-bytes f n)) ∙ ap (λ (k : ℕ). getD (bytesOf f n) k 0) z)
+    ∙ bytes-bit f n p h l
+
+-- bytes beside bytes
+append-small : (xs ys : List ℕ) → ((i : ℕ) → getD xs i 0 < 256) → ((i : ℕ) → getD ys i 0 < 256) → (i : ℕ) → getD (xs ++ ys) i 0 < 256
+append-small [] ys hx hy i = hy i
+append-small (x ∷ xs) ys hx hy zero = hx 0
+append-small (x ∷ xs) ys hx hy (suc i) = append-small xs ys (λ j. hx (suc j)) hy i
+
+-- entries are bytes
+entries-small : (f : ℕ → ℕ) (e n i : ℕ) → getD (entriesFrom f e n) i 0 < 256
+unfolding entriesFrom
+entries-small f e zero i = lit< tt
+entries-small f e (suc n) i = append-small (le 16 (entryOf f e)) (entriesFrom f (suc e) n) (le-small 16 (entryOf f e)) (entries-small f (suc e) n) i
+
+-- ---- the ones of a strip
+-- the ones of a list of bits, counted past its end
+pub ones-past : (t : List ℕ) (m : ℕ) → length t ≤ m → ones (cell t) m ≡ ones (cell t) (length t)
+ones-past t m h =
+    let n : ℕ = length t in
+    let e : n + (m - n) ≡ m = omega arith in
+    let z : ones (λ p. cell t (n + p)) (m - n) ≡ (m - n) * 0 =
+    ones-const (λ p. cell t (n + p)) 0 (m - n) (λ p l. List·getD-eq-default t 0 {n = n + p} (omega arith)) in
+    omega (arith, ap (ones (cell t)) e, ones-split (cell t) n (m - n), z)
+
+-- its rank of 1
+pub rank-all : (t : List ℕ) → ((p : ℕ) → cell t p ≤ 1) → rank t 1 (length t) ≡ ones (cell t) (length t)
+rank-all t h =
+    let e : min (length t) (length t) ≡ length t = omega arith in
+    ap (rankOf (cell t) 1) e ∙ rank-ones (cell t) (length t) h
+
+-- past its length a strip holds zeros
+pub strip-past : (ws : List ℕ) (n p : ℕ) → n ≤ p → cell (stripOf ws n) p ≡ 0
+strip-past ws n p h = List·getD-eq-default (stripOf ws n) 0 {n = p} (omega (arith, strip-length ws n))
+
+-- its cells are bits
+pub strip-le : (ws : List ℕ) (n p : ℕ) → cell (stripOf ws n) p ≤ 1
+strip-le ws n p = ⊎-elim inside past (lt-or p n)
+  where
+    inside : p < n → cell (stripOf ws n) p ≤ 1
+    inside l = omega (arith, strip-cell ws n p l, bitAt-le ws p)
+
+    past : n ≤ p → cell (stripOf ws n) p ≤ 1
+    past l = omega (arith, strip-past ws n p l)
+
+-- ---- a record
+module _ (x l : ℕ) (t : List ℕ) where
+  -- it, its entries, its bits and its ones
+  abbrev r : List ℕ
+  r = recordOf x l t
+
+  abbrev es : List ℕ
+  es = entriesFrom (cell t) 0 (blocksOf (length t))
+
+  abbrev bs : List ℕ
+  bs = bytesOf (cell t) (512 * blocksOf (length t))
+
+  abbrev total : ℕ
+  total = rank t 1 (length t)
+
+  -- what stands from a byte on
+  from-0 : drop 0 r ≡ le 4 x ++ (le 4 l ++ (le 4 (length t) ++ (le 4 total ++ (es ++ bs))))
+  unfolding recordOf
+  from-0 = refl
+
+  from-4 : drop 4 r ≡ le 4 l ++ (le 4 (length t) ++ (le 4 total ++ (es ++ bs)))
+  from-4 = piece-after r (le 4 x) (le 4 l ++ (le 4 (length t) ++ (le 4 total ++ (es ++ bs)))) 0 4 4 (length-le 4 x) from-0 refl
+
+  from-8 : drop 8 r ≡ le 4 (length t) ++ (le 4 total ++ (es ++ bs))
+  from-8 = piece-after r (le 4 l) (le 4 (length t) ++ (le 4 total ++ (es ++ bs))) 4 4 8 (length-le 4 l) from-4 refl
+
+  from-12 : drop 12 r ≡ le 4 total ++ (es ++ bs)
+  from-12 = piece-after r (le 4 (length t)) (le 4 total ++ (es ++ bs)) 8 4 12 (length-le 4 (length t)) from-8 refl
+
+  from-16 : drop 16 r ≡ es ++ bs
+  from-16 = piece-after r (le 4 total) (es ++ bs) 12 4 16 (length-le 4 total) from-12 refl
+
+  from-bits : drop (bitsStart (length t)) r ≡ bs ++ []
+  from-bits =
+      piece-after r es bs 16 (16 * blocksOf (length t)) (bitsStart (length t)) (length-entries (cell t) 0 (blocksOf (length t))) from-16 refl
+      ∙ sym (append-nil bs)
+
+  -- its size
+  pub record-length : length r ≡ sizeOf (length t)
+  unfolding recordOf
+  record-length =
+      length-append (le 4 x) (le 4 l ++ (le 4 (length t) ++ (le 4 total ++ (es ++ bs))))
+      ∙ omega (
+        arith,
+        length-le 4 x,
+        length-append (le 4 l) (le 4 (length t) ++ (le 4 total ++ (es ++ bs))),
+        length-le 4 l,
+        length-append (le 4 (length t)) (le 4 total ++ (es ++ bs)),
+        length-le 4 (length t),
+        length-append (le 4 total) (es ++ bs),
+        length-le 4 total,
+        length-append es bs,
+        length-entries (cell t) 0 (blocksOf (length t)),
+        length-bytes (cell t) (512 * blocksOf (length t)),
+      )
+
+  -- its four numbers
+  pub record-next : num r 0 4 ≡ x % 2 ^ 32
+  record-next = piece-num r (le 4 l ++ (le 4 (length t) ++ (le 4 total ++ (es ++ bs)))) 0 4 x from-0
+
+  pub record-label : num r 4 4 ≡ l % 2 ^ 32
+  record-label = piece-num r (le 4 (length t) ++ (le 4 total ++ (es ++ bs))) 4 4 l from-4
+
+  pub record-size : num r 8 4 ≡ length t % 2 ^ 32
+  record-size = piece-num r (le 4 total ++ (es ++ bs)) 8 4 (length t) from-8
+
+  pub record-ones : num r 12 4 ≡ rank t 1 (length t) % 2 ^ 32
+  record-ones = piece-num r (es ++ bs) 12 4 total from-12
+
+  -- the third, of a row that is not too long
+  pub record-long : length t ≤ 134217728 → num r 8 4 ≡ length t
+  record-long h = record-size ∙ mod-eq-of-lt (omega arith)
+
+  -- those of a list of bits
+  module _ (bits : (p : ℕ) → cell t p ≤ 1) where
+    -- the fourth, likewise
+    pub record-total : length t ≤ 134217728 → num r 12 4 ≡ rank t 1 (length t)
+    record-total h = record-ones ∙ mod-eq-of-lt (omega (arith, rank-all t bits, ones-le (cell t) (length t) bits))
+
+    -- entry e
+    pub record-entry : (e : ℕ) → length t ≤ 134217728 → e < blocksOf (length t) → num r (16 + 16 * e) 16 ≡ entryOf (cell t) e
+    record-entry e h k =
+        piece-entry r bs 16 (cell t) (blocksOf (length t)) e from-16 k ∙ mod-eq-of-lt (entry-lt (cell t) e bits (omega arith))
+
+    -- the bit at position p, padding too
+    pub record-bit : (p : ℕ) → p < 4096 * blocksOf (length t) → bitFrom r (bitsStart (length t)) p ≡ cell t p
+    record-bit p h = piece-bit r [] (bitsStart (length t)) (cell t) (512 * blocksOf (length t)) p bits from-bits (omega arith)
+
+    -- the row's bits are those written
+    pub record-bits : rowBits r (length t) ≡ t
+    record-bits =
+        ext-getD 0 (rowBits r (length t)) t (length-listOf (bitFrom r (bitsStart (length t))) (length t))
+        (λ p h.
+        let q : p < length t = omega (arith, length-listOf (bitFrom r (bitsStart (length t))) (length t)) in
+        getD-listOf (bitFrom r (bitsStart (length t))) (length t) p q ∙ record-bit p (omega arith))
+
+    -- a record that is written is right
+    pub record-right : x < 2 ^ 32 → l < 2 ^ 32 → Right r (length t)
+    record-right hx hl =
+        sym (ap₂ (λ (y z : ℕ). recordOf y z (rowBits r (length t))) (record-next ∙ mod-eq-of-lt hx) (record-label ∙ mod-eq-of-lt hl)
+        ∙ ap (recordOf x l) record-bits)
+
+    -- it is a list of bytes
+    pub record-small : (i : ℕ) → getD r i 0 < 256
+    unfolding recordOf
+    record-small =
+        append-small (le 4 x) _ (le-small 4 x)
+        (append-small (le 4 l) _ (le-small 4 l)
+        (append-small (le 4 (length t)) _ (le-small 4 (length t))
+        (append-small (le 4 total) _ (le-small 4 total)
+        (append-small es bs (entries-small (cell t) 0 (blocksOf (length t))) (λ i. bytes-small (cell t) (512 * blocksOf (length t)) i bits)))))
+
+-- ---- a word of a strip
+module _ (ws : List ℕ) (n w p : ℕ) where
+  -- past the length
+  pub word-none : n ≤ 64 * w → bit 0 p ≡ cell (stripOf ws n) (64 * w + p)
+  word-none h = bit-high 0 0 p (zero-lt-suc 0) (omega arith) ∙ sym (strip-past ws n (64 * w + p) (omega arith))
+
+  -- before it
+  pub word-all : 64 * w + 64 ≤ n → p < 64 → bit (getD ws w 0) p ≡ cell (stripOf ws n) (64 * w + p)
+  word-all h l = sym (strip-cell ws n (64 * w + p) (omega arith) ∙ word-bit ws w p l)
+
+  -- at it
+  pub word-some : (m : ℕ) → 64 * w + m ≡ n → p < 64 → bit (bitAnd (getD ws w 0) (2 ^ m - 1)) p ≡ cell (stripOf ws n) (64 * w + p)
+  word-some m e l =
+      let x : ℕ = getD ws w 0 in
+      ap (λ (y : ℕ). bit y p) (and-mask x m)
+      ∙ ⊎-elim
+      (λ q. bit-mod x m p q ∙ sym (strip-cell ws n (64 * w + p) (omega arith) ∙ word-bit ws w p l))
+      (λ q. bit-high (x % 2 ^ m) m p (mod-lt x (pow-pos m)) q ∙ sym (strip-past ws n (64 * w + p) (omega arith)))
+      (lt-or p m)
+
+-- the first k words vs hold the bits f
+abbrev pub WordsHold : (ℕ → ℕ) → List ℕ → ℕ → Type 0
+WordsHold f vs k = (j : ℕ) → j < k → (q : ℕ) → q < 64 → bit (getD vs j 0) q ≡ f (64 * j + q)
+
+-- one word more
+pub words-more : (f : ℕ → ℕ) (vs : List ℕ) (k x : ℕ) → k < length vs → WordsHold f vs k → ((q : ℕ) → q < 64 → bit x q ≡ f (64 * k + q))
+    → WordsHold f (set vs k x) (k + 1)
+words-more f vs k x h low is j l q m = ⊎-elim under at (lt-or j k)
+  where
+    under : j < k → bit (getD (set vs k x) j 0) q ≡ f (64 * j + q)
+    under u = ap (λ (y : ℕ). bit y q) (getD-set-other vs k j x 0 (λ e. omega arith)) ∙ low j u q m
+
+    at : k ≤ j → bit (getD (set vs k x) j 0) q ≡ f (64 * j + q)
+    at u =
+        let e : j ≡ k = omega arith in
+        ap (λ (i : ℕ). bit (getD (set vs k x) i 0) q) e
+        ∙ ap (λ (y : ℕ). bit y q) (getD-set-same vs k x 0 h) ∙ is q m ∙ ap (λ (i : ℕ). f (64 * i + q)) (sym e)
+
+-- their bits
+pub words-bits : (f : ℕ → ℕ) (vs : List ℕ) (k p : ℕ) → WordsHold f vs k → p < 64 * k → bitAt vs p ≡ f p
+words-bits f vs k p h l =
+    let e : 64 * (p / 64) + p % 64 ≡ p = omega arith in
+    h (p / 64) (omega arith) (p % 64) (omega arith) ∙ ap f e
+
+-- ---- bits stored as bytes
+module _ (g : ℕ → ℕ) (at : ℕ) (s : List ℕ) where
+  -- nothing is stored yet
+  pub bits-none : BitsPut g 0 at s s 0
+  unfolding listOf
+  bits-none = record { same = refl; count = sym (ones-zero g) }
+
+  -- k bytes more
+  pub bits-more : (t u : List ℕ) (m k n r q : ℕ) → BitsPut g m at s t r → BitsPut (λ p. g (8 * m + p)) k (at + m) t u q → m + k ≡ n
+      → BitsPut g n at s u (r + q)
+  bits-more t u m k n r q x y e =
+      let i : 8 * m + 8 * k ≡ 8 * n = omega arith in
+      record {
+        same =
+            y .same
+            ∙ ap (λ (l : List ℕ). sets l (at + m) (bytesOf (λ p. g (8 * m + p)) k)) (x .same)
+            ∙ sets-join (bytesOf g m) (bytesOf (λ p. g (8 * m + p)) k) s at (at + m) (omega (arith, length-bytes g m))
+            ∙ ap (sets s at) (sym (bytes-append g m k) ∙ ap (bytesOf g) e);
+        count = omega (arith, x .count, y .count, ones-split g (8 * m) (8 * k), ap (ones g) i);
+      }
+
+  -- one word
+  pub bits-word : (t : List ℕ) (x q : ℕ) → t ≡ sets s at (le 8 x) → ((p : ℕ) → p < 64 → bit x p ≡ g p) → q ≡ ones (bit x) 64 → BitsPut g 8 at s t q
+  bits-word t x q e h c =
+      record { same = e ∙ ap (sets s at) (le-bytes 8 x g h); count = c ∙ ones-ext (bit x) g 64 h }
+
+  -- equal bits
+  pub bits-ext : (f : ℕ → ℕ) (t : List ℕ) (m r : ℕ) → BitsPut f m at s t r → ((p : ℕ) → p < 8 * m → f p ≡ g p) → BitsPut g m at s t r
+  bits-ext f t m r x h =
+      record { same = x .same ∙ ap (sets s at) (bytes-ext f g m h); count = x .count ∙ ones-ext f g (8 * m) h }
+
+  -- the length stays
+  pub bits-length : (t : List ℕ) (m r : ℕ) → BitsPut g m at s t r → length t ≡ length s
+  bits-length t m r x = ap length (x .same) ∙ length-sets s at (bytesOf g m)
+
+  -- of bits, there are no more ones than bits
+  pub bits-le : (t : List ℕ) (m r : ℕ) → BitsPut g m at s t r → ((p : ℕ) → g p ≤ 1) → r ≤ 8 * m
+  bits-le t m r x h = omega (arith, x .count, ones-le g (8 * m) h)
+
+  -- the number of bytes, otherwise
+  pub bits-size : (t : List ℕ) (m n r : ℕ) → BitsPut g m at s t r → m ≡ n → BitsPut g n at s t r
+  bits-size t m n r x e = subst (λ (k : ℕ). BitsPut g k at s t r) e x
+
+-- one word more of a part
+pub part-word : (part : List ℕ) (at : ℕ) (s t u : List ℕ) (j r q : ℕ) → BitsPut (bitAt part) (8 * j) at s t r → u ≡ sets t (at + 8 * j) (le 8 (getD part j 0))
+    → q ≡ ones (bit (getD part j 0)) 64 → BitsPut (bitAt part) (8 * (j + 1)) at s u (r + q)
+part-word part at s t u j r q w e c =
+    bits-more (bitAt part) at s t u (8 * j) 8 (8 * (j + 1)) r q w
+    (bits-word (λ p. bitAt part (8 * (8 * j) + p)) (at + 8 * j) t u (getD part j 0) q e
+    (λ p l. sym (ap (bitAt part) (place p) ∙ word-bit part j p l)) c)
+    (omega arith)
+  where
+    place : (p : ℕ) → 8 * (8 * j) + p ≡ 64 * j + p
+    place p = omega arith
+
+-- ---- a block stored part by part, with the ones up to each part's end
+pub record Parts (g : ℕ → ℕ) (at : ℕ) (s t counts : List ℕ) (sum j : ℕ) : Type 0 where
+  pub within : j ≤ 8
+  pub long : length counts ≡ 8
+  pub put : BitsPut g (64 * j) at s t sum
+  pub ends : (i : ℕ) → i < j → getD counts i 0 ≡ ones g (512 * (i + 1))
+
+-- nothing is stored yet
+pub parts-none : (g : ℕ → ℕ) (at : ℕ) (s counts : List ℕ) → length counts ≡ 8 → Parts g at s s counts 0 0
+parts-none g at s counts h = record { within = omega arith; long = h; put = bits-none g at s; ends = (λ i l. absurd (omega arith)) }
+
+-- one part more, of eight words
+pub parts-more : (ws : List ℕ) (w at : ℕ) (s t u counts part : List ℕ) (sum j q : ℕ) → Parts (wordBits ws w) at s t counts sum j → j < 8
+    → ((i : ℕ) → i < 8 → getD part i 0 ≡ getD ws (w + 8 * j + i) 0) → BitsPut (bitAt part) 64 (at + 64 * j) t u q
+    → Parts (wordBits ws w) at s u (set counts j (sum + q)) (sum + q) (j + 1)
+parts-more ws w at s t u counts part sum j q x h words b =
+    let g : ℕ → ℕ = wordBits ws w in
+    let put : BitsPut g (64 * (j + 1)) at s u (sum + q) =
+    bits-more g at s t u (64 * j) 64 (64 * (j + 1)) sum q (x .put) (bits-ext (λ p. g (8 * (64 * j) + p)) (at + 64 * j) t (bitAt part) u 64 q b same) (omega arith) in
+    record {
+      within = omega arith;
+      long = length-set counts j (sum + q) ∙ x .long;
+      put = put;
+      ends = set-more (λ i. ones g (512 * (i + 1))) counts j (sum + q) (omega (arith, x .long)) (x .ends) (put .count ∙ ap (ones g) whole);
+    }
+  where
+    whole : 8 * (64 * (j + 1)) ≡ 512 * (j + 1)
+    whole = omega arith
+
+    same : (p : ℕ) → p < 8 * 64 → bitAt part p ≡ wordBits ws w (8 * (64 * j) + p)
+    same p l =
+        words-bits (λ p. wordBits ws w (8 * (64 * j) + p)) part 8 p
+        (λ i k y z.
+        let e : 64 * (w + 8 * j + i) + y ≡ 64 * w + (8 * (64 * j) + (64 * i + y)) = omega arith in
+        ap (λ (v : ℕ). bit v y) (words i k) ∙ sym (word-bit ws (w + 8 * j + i) y z) ∙ ap (bitAt ws) e)
+        l
+
+-- all eight are stored
+pub parts-done : (g : ℕ → ℕ) (at : ℕ) (s t counts : List ℕ) (sum j : ℕ) → Parts g at s t counts sum j → 8 ≤ j
+    → (t ≡ sets s at (bytesOf g 512)) × (length counts ≡ 8) × ((i : ℕ) → i < 8 → getD counts i 0 ≡ ones g (512 * (i + 1)))
+parts-done g at s t counts sum j x h =
+    let e : 64 * j ≡ 512 = omega (arith, x .within) in
+    (bits-size g at s t (64 * j) 512 sum (x .put) e .same, x .long, λ i l. x .ends i (omega arith))
+
+-- ---- an entry from its eight numbers
+-- seven digits
+digits-seven : (b : ℕ) (g : ℕ → ℕ) → digits b g 7 ≡ g 0 + b * (g 1 + b * (g 2 + b * (g 3 + b * (g 4 + b * (g 5 + b * g 6)))))
+unfolding digits
+digits-seven b g =
+    let e : g 6 + b * 0 ≡ g 6 = omega (arith, mul-zero b) in
+    ap (λ (x : ℕ). g 0 + b * (g 1 + b * (g 2 + b * (g 3 + b * (g 4 + b * (g 5 + b * x)))))) e
+
+-- the ones before the block, then seven digits
+pub entry-is : (g : ℕ → ℕ) (w sum : ℕ) → w ≡ sum + 2 ^ 44 * (g 0 + 4096 * (g 1 + 4096 * (g 2 + 4096 * (g 3 + 4096 * (g 4 + 4096 * (g 5 + 4096 * g 6))))))
+    → w ≡ sum + 2 ^ 44 * digits (2 ^ 12) g 7
+entry-is g w sum h = h ∙ ap (λ (d : ℕ). sum + 2 ^ 44 * d) (sym (digits-seven (2 ^ 12) g))
+
+-- ---- a block stored: its entry in two halves, its bits through the scratch array
+pub block-stored : (g : ℕ → ℕ) (sum a b low high : ℕ) (s s1 s2 s3 bytes counts : List ℕ) → bytes ≡ bytesOf g 512
+    → ((j : ℕ) → j < 8 → getD counts j 0 ≡ ones g (512 * (j + 1))) → low + 2 ^ 64 * high ≡ sum + 2 ^ 44 * digits (2 ^ 12) (λ j. getD counts j 0) 7 → low < 2 ^ 64
+    → s1 ≡ sets s a (le 8 low) → s2 ≡ sets s1 (a + 8) (le 8 high) → s3 ≡ sets s2 b bytes → BlockPut g sum a b s s3 (sum + getD counts 7 0)
+block-stored g sum a b low high s s1 s2 s3 bytes counts is ends entry small h1 h2 h3 =
+    let word : low + 2 ^ 64 * high ≡ blockEntry g sum =
+    entry ∙ ap (λ (d : ℕ). sum + 2 ^ 44 * d) (digits-ext (2 ^ 12) (λ j. getD counts j 0) (λ j. ones g (512 * (j + 1))) 7 (λ j l. ends j (omega arith))) in
+    record {
+      same =
+          h3
+          ∙ ap₂ (λ (x y : List ℕ). sets x b y)
+          (h2 ∙ ap (λ (l : List ℕ). sets l (a + 8) (le 8 high)) h1 ∙ put-join s a 8 8 low high small ∙ ap (λ (v : ℕ). sets s a (le 16 v)) word) is;
+      count = ap (λ (x : ℕ). sum + x) (ends 7 (lit< tt));
+    }
+
+-- equal bits
+pub block-ext : (f g : ℕ → ℕ) (sum a b : ℕ) (s t : List ℕ) (r : ℕ) → BlockPut f sum a b s t r → ((p : ℕ) → p < 4096 → f p ≡ g p) → BlockPut g sum a b s t r
+block-ext f g sum a b s t r x h =
+    let entry : blockEntry f sum ≡ blockEntry g sum =
+    ap (λ (d : ℕ). sum + 2 ^ 44 * d)
+    (digits-ext (2 ^ 12) (λ j. ones f (512 * (j + 1))) (λ j. ones g (512 * (j + 1))) 7 (λ j l. ones-ext f g (512 * (j + 1)) (λ p q. h p (omega arith)))) in
+    record {
+      same = x .same ∙ ap₂ (λ (v : ℕ) (l : List ℕ). sets (sets s a (le 16 v)) b l) entry (bytes-ext f g 512 h);
+      count = x .count ∙ ap (λ (c : ℕ). sum + c) (ones-ext f g 4096 h);
+    }
+
+-- the length stays
+pub block-length : (g : ℕ → ℕ) (sum a b : ℕ) (s t : List ℕ) (r : ℕ) → BlockPut g sum a b s t r → length t ≡ length s
+block-length g sum a b s t r x =
+    ap length (x .same) ∙ length-sets (sets s a (le 16 (blockEntry g sum))) b (bytesOf g 512) ∙ length-sets s a (le 16 (blockEntry g sum))
+
+-- ---- blocks stored one after another
+-- nothing is stored yet
+pub row-none : (f : ℕ → ℕ) (a b : ℕ) (s : List ℕ) → RowPut f 0 a b s s 0
+unfolding entriesFrom listOf
+row-none f a b s = record { same = refl; count = sym (ones-zero f) }
+
+-- an entry by its own block
+entry-block : (f : ℕ → ℕ) (e : ℕ) → blockEntry (λ p. f (4096 * e + p)) (ones f (4096 * e)) ≡ entryOf f e
+unfolding entryOf
+entry-block f e = refl
+
+-- one block more
+pub row-more : (f : ℕ → ℕ) (e a b : ℕ) (s t u : List ℕ) (sum r : ℕ) → RowPut f e a b s t sum → BlockPut (λ p. f (4096 * e + p)) sum (a + 16 * e) (b + 512 * e) t u r
+    → a + 16 * (e + 1) ≤ b → RowPut f (e + 1) a b s u r
+row-more f e a b s t u sum r x y far =
+    let g : ℕ → ℕ = λ p. f (4096 * e + p) in
+    let E : List ℕ = le 16 (entryOf f e) in
+    let B : List ℕ = bytesOf g 512 in
+    let ES : List ℕ = entriesFrom f 0 e in
+    let BS : List ℕ = bytesOf f (512 * e) in
+    let entry : blockEntry g sum ≡ entryOf f e = ap (blockEntry g) (x .count) ∙ entry-block f e in
+    let z : 0 + e ≡ e = omega arith in
+    let entries : ES ++ E ≡ entriesFrom f 0 (e + 1) =
+    sym (entries-append f 0 e 1 ∙ ap (λ (l : List ℕ). ES ++ l) (ap (λ (k : ℕ). entriesFrom f k 1) z ∙ entries-one f e)) in
+    let place : (p : ℕ) → 4096 * e + p ≡ 8 * (512 * e) + p = λ p. omega arith in
+    let i : 512 * e + 512 ≡ 512 * (e + 1) = omega arith in
+    let j : 4096 * e + 4096 ≡ 4096 * (e + 1) = omega arith in
+    let bytes : BS ++ B ≡ bytesOf f (512 * (e + 1)) =
+    ap (λ (l : List ℕ). BS ++ l) (bytes-ext g (λ p. f (8 * (512 * e) + p)) 512 (λ p l. ap f (place p)))
+    ∙ sym (bytes-append f (512 * e) 512)
+    ∙ ap (bytesOf f) i in
+    record {
+      same =
+          y .same
+          ∙ ap₂ (λ (v : ℕ) (l : List ℕ). sets (sets l (a + 16 * e) (le 16 v)) (b + 512 * e) B) entry (x .same)
+          ∙ ap (λ (l : List ℕ). sets l (b + 512 * e) B) (sets-comm E BS (sets s a ES) (a + 16 * e) b (omega (arith, length-le 16 (entryOf f e))))
+          ∙ sets-join BS B (sets (sets s a ES) (a + 16 * e) E) b (b + 512 * e) (omega (arith, length-bytes f (512 * e)))
+          ∙ ap₂ (λ (l m : List ℕ). sets l b m)
+          (sets-join ES E s a (a + 16 * e) (omega (arith, length-entries f 0 e)) ∙ ap (sets s a) entries) bytes;
+      count = omega (arith, x .count, y .count, ones-split f (4096 * e) 4096, ap (ones f) j);
+    }
+
+-- the length stays
+pub row-length : (f : ℕ → ℕ) (k a b : ℕ) (s t : List ℕ) (r : ℕ) → RowPut f k a b s t r → length t ≡ length s
+row-length f k a b s t r x =
+    ap length (x .same) ∙ length-sets (sets s a (entriesFrom f 0 k)) b (bytesOf f (512 * k)) ∙ length-sets s a (entriesFrom f 0 k)
+
+-- of bits, there are no more ones than bits
+pub row-le : (f : ℕ → ℕ) (k a b : ℕ) (s t : List ℕ) (r : ℕ) → RowPut f k a b s t r → ((p : ℕ) → f p ≤ 1) → r ≤ 4096 * k
+row-le f k a b s t r x h = omega (arith, x .count, ones-le f (4096 * k) h)
+
+-- ---- a record stored: its blocks first, then its four numbers
+-- four numbers side by side
+put-four : (s A B C D : List ℕ) (at : ℕ) → length A ≡ 4 → length B ≡ 4 → length C ≡ 4
+    → sets (sets (sets (sets s at A) (at + 4) B) (at + 8) C) (at + 12) D ≡ sets s at (A ++ (B ++ (C ++ D)))
+put-four s A B C D at a b c =
+    sets-join C D (sets (sets s at A) (at + 4) B) (at + 8) (at + 12) (omega arith)
+    ∙ sets-join B (C ++ D) (sets s at A) (at + 4) (at + 8) (omega arith)
+    ∙ sets-join A (B ++ (C ++ D)) s at (at + 4) (omega arith)
+
+-- the whole record
+pub record-stored : (t : List ℕ) (n label total at b : ℕ) (s s1 s2 s3 s4 s5 : List ℕ) → length t ≡ n → ((p : ℕ) → cell t p ≤ 1) → b ≡ at + 16 + 16 * blocksOf n
+    → RowPut (cell t) (blocksOf n) (at + 16) b s s1 total → s2 ≡ sets s1 at (le 4 0) → s3 ≡ sets s2 (at + 4) (le 4 label) → s4 ≡ sets s3 (at + 8) (le 4 n)
+    → s5 ≡ sets s4 (at + 12) (le 4 total) → s5 ≡ sets s at (recordOf 0 label t)
+unfolding recordOf
+record-stored t n label total at b s s1 s2 s3 s4 s5 long bits place row h2 h3 h4 h5 =
+    let k : ℕ = blocksOf n in
+    let A : List ℕ = le 4 0 in
+    let B : List ℕ = le 4 label in
+    let C : List ℕ = le 4 n in
+    let D : List ℕ = le 4 total in
+    let X : List ℕ = entriesFrom (cell t) 0 k ++ bytesOf (cell t) (512 * k) in
+    let H : List ℕ = A ++ (B ++ (C ++ D)) in
+    let whole : s1 ≡ sets s (at + 16) X =
+    row .same ∙ sets-join (entriesFrom (cell t) 0 k) (bytesOf (cell t) (512 * k)) s (at + 16) b (omega (arith, length-entries (cell t) 0 k)) in
+    let header : length H ≡ 16 =
+    omega (arith, length-append A (B ++ (C ++ D)), length-append B (C ++ D), length-append C D, length-le 4 0, length-le 4 label, length-le 4 n, length-le 4 total) in
+    let sum : total ≡ rank t 1 (length t) = row .count ∙ ones-past t (4096 * k) (omega arith) ∙ sym (rank-all t bits) in
+    let flat : H ++ X ≡ A ++ (B ++ (C ++ (D ++ X))) = simp append-assoc in
+    h5
+    ∙ ap (λ (l : List ℕ). sets l (at + 12) D)
+    (h4 ∙ ap (λ (l : List ℕ). sets l (at + 8) C) (h3 ∙ ap (λ (l : List ℕ). sets l (at + 4) B) (h2 ∙ ap (λ (l : List ℕ). sets l at A) whole)))
+    ∙ put-four (sets s (at + 16) X) A B C D at (length-le 4 0) (length-le 4 label) (length-le 4 n)
+    ∙ sets-comm H X s at (at + 16) (omega (arith, header))
+    ∙ sets-join H X s at (at + 16) (omega (arith, header))
+    ∙ ap (sets s at) flat
+    ∙ ap₂ (λ (m c : ℕ). sets s at (A ++ (B ++ (le 4 m ++ (le 4 c ++ (entriesFrom (cell t) 0 (blocksOf m) ++ bytesOf (cell t) (512 * blocksOf m))))))) (sym long) sum
+
+-- ---- the header of an image
+-- its three numbers stored, and the rest as it was
+pub header-stored : (s t u v : List ℕ) (x : ℕ) → 16 ≤ length s → t ≡ sets s 0 (le 4 x) → u ≡ sets t 4 (le 4 kind) → v ≡ sets u 8 (le 8 0)
+    → v ≡ headerOf x ++ drop 16 s
+header-stored s t u v x h et eu ev =
+    let A : List ℕ = le 4 x in
+    let B : List ℕ = le 4 kind in
+    let C : List ℕ = le 8 0 in
+    let long : length (A ++ (B ++ C)) ≡ 16 = omega (arith, length-append A (B ++ C), length-append B C, length-le 4 x, length-le 4 kind, length-le 8 0) in
+    ev ∙ ap (λ (l : List ℕ). sets l 8 C) (eu ∙ ap (λ (l : List ℕ). sets l 4 B) et)
+    ∙ sets-join B C (sets s 0 A) 4 8 (omega (arith, length-le 4 kind))
+    ∙ sets-join A (B ++ C) s 0 4 (omega (arith, length-le 4 x))
+    ∙ sets-front (A ++ (B ++ C)) s (omega (arith, long))
+    ∙ ap (λ (k : ℕ). (A ++ (B ++ C)) ++ drop k s) long

@@ -1,0 +1,9 @@
+pub mod Bytes
+pub mod Layout
+pub mod Chain
+pub mod Rows
+pub mod Shelf
+pub mod Calls
+pub mod Walk
+pub mod Writing
+pub mod Reading

@@ -1,0 +1,24 @@
+// Clearing an image.
+ghost use mathlib.Core.Path.{_≡_};
+ghost use Rattle.words.specs.Refusals.{toldOf};
+ghost use Rattle.image.specs.Calls.{imageOutcome, clearOutcome};
+use super::put::put_le;
+use super::put::put_word;
+use words::refusal::Answer;
+use words::refusal::Refusal;
+
+// clear: the header of an empty chain, and no other byte.
+pub fn clear(image: &mut [u8]) -> Answer
+    ensures { λ r. ⌜ imageOutcome (toldOf r) (now (image .exit)) ≡ clearOutcome (now (image .entry)) ⌝ }
+{
+    if image.len() < 16 {
+        return Answer::Refused(Refusal::NoRoom);
+    }
+    if 4294967296 < image.len() {
+        return Answer::Refused(Refusal::NoRoom);
+    }
+    put_le(image, 0, 4, 0);
+    put_le(image, 4, 4, 1);
+    put_word(image, 8, 0);
+    Answer::Value(16)
+}
