@@ -15,6 +15,11 @@
  *   7  the strip is full
  *   8  v neither 0 nor 1
  *   9  the record does not fit: a one past the length, or a wrong counter
+ *  10  no sound chain, or a part that is not one record of the length held
+ *  11  a label not from 1 to 64
+ *  13  no room
+ *  14  no row has the label
+ *  15  a wrong row: its ones, entries or padding are not those of its bits
  *
  * The buffers lent to one call do not overlap. A buffer of no numbers may be NULL.
  */
@@ -90,6 +95,24 @@ void strip_fill(size_t capacity, size_t length, uint64_t *words, size_t word_cou
  * 1, 2, 3, 4. */
 void strip_truncate(size_t capacity, size_t length, uint64_t *words, size_t word_count, uint32_t *counters,
                     size_t counter_count, size_t n, uint64_t *out, size_t room);
+
+/* ---- The calls on an image of `size` bytes, and on a row's own part of it with the length held for it. They answer the
+ * value, or 2^32 plus the refusal's number. */
+
+/* clear: writes the header of an empty chain, and no other byte. Value: 16. Refusals: 13. */
+uint64_t image_clear(uint8_t *image, size_t size);
+
+/* Opening: the byte where the label's record starts. Refusals: 10, 11, 14. */
+uint64_t image_open(const uint8_t *image, size_t size, size_t label);
+
+/* look(i): the bit at position i. Refusals: 10, 4. */
+uint64_t image_part_get(const uint8_t *part, size_t size, size_t n, size_t i);
+
+/* count(v, i): how many of the first i bits equal v. Refusals: 10, 8, 4, 15. */
+uint64_t image_part_rank(const uint8_t *part, size_t size, size_t n, uint64_t v, size_t i);
+
+/* find(v, k): the position that holds v and has k of v before it. Refusals: 10, 8, 6, 15. */
+uint64_t image_part_select(const uint8_t *part, size_t size, size_t n, uint64_t v, size_t k);
 
 #ifdef __cplusplus
 }

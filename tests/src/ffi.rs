@@ -88,4 +88,9 @@ extern "C" {
         counters: *const u32,
         counter_count: usize,
     ) -> u64;
+    pub fn image_clear(image: *mut u8, size: usize) -> u64;
+    pub fn image_open(image: *const u8, size: usize, label: usize) -> u64;
+    pub fn image_part_get(part: *const u8, size: usize, n: usize, i: usize) -> u64;
+    pub fn image_part_rank(part: *const u8, size: usize, n: usize, v: u64, i: usize) -> u64;
+    pub fn image_part_select(part: *const u8, size: usize, n: usize, v: u64, k: usize) -> u64;
 }

@@ -1,5 +1,8 @@
-//! The proved calls, to be compared with a plain model of them: those on words here, those on a record in `record`.
+//! The proved calls, to be compared with a plain model of them: those on words here, those on a record in `record`, those
+//! on an image in `image`.
 mod ffi;
+pub mod image;
+pub mod layout;
 pub mod model;
 pub mod random;
 pub mod record;

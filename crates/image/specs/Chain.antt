@@ -55,7 +55,7 @@ abbrev pub inFront : ℕ → Option (List ℕ) → Option (List ℕ)
 inFront a none = none
 inFront a (some bs) = some (a ∷ bs)
 
--- the records from byte a on, by the byte where each starts; `met` are the labels met before. Each record takes 16 bytes, so as many steps as the
+-- the records from byte a on, by the byte where each starts; `met` are the labels met before. Each record takes at least 16 bytes, so as many steps as the
 -- image has bytes are enough
 unfoldable pub chainFrom : ℕ → List ℕ → ℕ → List ℕ → Option (List ℕ)
 chainFrom zero s a met = none

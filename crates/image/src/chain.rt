@@ -88,7 +88,7 @@ pub fn record_sound(image: &[u8], at: usize) -> bool
     at + size <= UNIT_BYTES * next
 }
 
-// One walk of the whole chain, of which 16 bytes are read for each record. `met` has a flag for each label met so far.
+// One walk of the whole chain, of which at most 16 bytes are read for each record. `met` has a flag for each label met so far.
 pub fn scan_chain(image: &[u8], label: usize) -> Scan
     ensures { λ r. ⌜ r ≡ scanOf (now (image .entry)) label ⌝ }
 {

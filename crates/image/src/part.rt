@@ -1,4 +1,4 @@
-// Reading the part of a row of n bits: an entry, then at most 64 bytes of bits.
+// Reading the part of a row of n bits: entries, then at most 64 bytes of bits.
 ghost use mathlib.Core.Path.{_≡_};
 ghost use mathlib.Core.Bool.{cond};
 ghost use Prim.Native.Nat.{ℕ, _+_, _-_, _*_, _/_, _^_, _<_, _≤_};

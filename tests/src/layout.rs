@@ -1,0 +1,96 @@
+//! A plain writer and reader of the image's layout.
+use crate::model::Answer;
+
+pub const MOST_ROW: usize = 134_217_728;
+
+/// Four bytes as a number.
+pub fn number(bytes: &[u8], at: usize) -> usize {
+    u32::from_le_bytes(bytes[at..at + 4].try_into().unwrap()) as usize
+}
+
+/// Stores a number as four bytes.
+pub fn store(bytes: &mut [u8], at: usize, value: usize) {
+    bytes[at..at + 4].copy_from_slice(&(value as u32).to_le_bytes());
+}
+
+/// The bytes of a record.
+pub fn size(length: usize) -> usize {
+    16 + 528 * length.div_ceil(4096)
+}
+
+fn ones(bits: &[bool]) -> u128 {
+    bits.iter().filter(|&&b| b).count() as u128
+}
+
+/// A record: next, label, length, ones; the entries; the bits.
+pub fn record(next: usize, label: usize, bits: &[bool]) -> Vec<u8> {
+    let mut bytes = Vec::new();
+    for value in [next, label, bits.len(), ones(bits) as usize] {
+        bytes.extend((value as u32).to_le_bytes());
+    }
+    let mut before = 0;
+    for block in bits.chunks(4096) {
+        let mut entry = before;
+        for j in 1..8 {
+            entry |= ones(&block[..block.len().min(512 * j)]) << (44 + 12 * (j - 1));
+        }
+        bytes.extend(entry.to_le_bytes());
+        before += ones(block);
+    }
+    let start = bytes.len();
+    bytes.resize(size(bits.len()), 0);
+    for (p, &b) in bits.iter().enumerate() {
+        bytes[start + p / 8] |= u8::from(b) << (p % 8);
+    }
+    bytes
+}
+
+/// An image of rows, each so many units past the end of the one before, with as many units after the last.
+pub fn image(rows: &[(usize, usize, Vec<bool>)], spare: usize) -> Vec<u8> {
+    let mut bytes = vec![0; 16];
+    bytes[4] = 1;
+    let mut link = 0;
+    for (gap, label, bits) in rows {
+        bytes.resize(bytes.len() + 16 * gap, 0xee);
+        let at = bytes.len();
+        store(&mut bytes, link, at / 16);
+        bytes.extend(record(0, *label, bits));
+        link = at;
+    }
+    bytes.resize(bytes.len() + 16 * spare, 0xdd);
+    bytes
+}
+
+/// The places of a sound chain's records.
+pub fn chain(image: &[u8]) -> Option<Vec<usize>> {
+    if image.len() < 16 || number(image, 4) != 1 || number(image, 8) != 0 || number(image, 12) != 0 {
+        return None;
+    }
+    let mut places: Vec<usize> = Vec::new();
+    let mut at = 16 * number(image, 0);
+    while at != 0 {
+        if at + 16 > image.len() {
+            return None;
+        }
+        let (label, length) = (number(image, at + 4), number(image, at + 8));
+        let end = at + size(length);
+        let next = 16 * number(image, at);
+        let met = places.iter().any(|&p| number(image, p + 4) == label);
+        if !(1..=64).contains(&label) || met || length > MOST_ROW || end > image.len() || (next != 0 && next < end) {
+            return None;
+        }
+        places.push(at);
+        at = next;
+    }
+    Some(places)
+}
+
+/// Opening: 10, 11, 14, or the record's place.
+pub fn open(image: &[u8], label: usize) -> Answer {
+    let places = chain(image).ok_or(10u64)?;
+    if !(1..=64).contains(&label) {
+        return Err(11);
+    }
+    let found = places.into_iter().find(|&p| number(image, p + 4) == label);
+    found.map(|p| p as u64).ok_or(14)
+}
