@@ -20,9 +20,9 @@ use Rattle.words.specs.declared.handle.Handle.{Handle}
 use Rattle.words.proofs.Sums.{lt-or, length-listOf, getD-listOf}
 use Rattle.words.proofs.WordLaws.{bitAt-le}
 use Rattle.words.proofs.StripLaws.{strip-cell, strip-length}
-use Rattle.counters.specs.Record.{Fits, wordsLaid, countersLaid}
+use Rattle.counters.specs.Record.{Fits, packedWords, builtCounters}
 use Rattle.counters.specs.Calls.{checks, held, pushTable, flipTable, fillTable, filled, truncateTable}
-use Rattle.counters.proofs.LaidLaws.{laid-fits, words-zero, counters-zero}
+use Rattle.counters.proofs.BuiltLaws.{built-fits, words-zero, counters-zero}
 use Rattle.counters.proofs.PromiseLaws.{sizes, sizes-of, lines-of}
 
 -- ---- strips of bits
@@ -94,15 +94,15 @@ pub create-again : (c : ℕ) (ws cs : List ℕ) → judge (checks (handle c 0) (
 create-again c ws cs pass =
     let z = sizes (handle c 0) ws cs pass in
     let none : (p : ℕ) → cell [] p ≤ 1 = (λ p. omega arith) in
-    let w : wordsLaid c [] ≡ replicate (length ws) 0 = words-zero c ∙ ap (λ (n : ℕ). replicate n 0) (sym (z .words)) in
-    let k : countersLaid c [] ≡ replicate (length cs) 0 = counters-zero c ∙ ap (λ (n : ℕ). replicate n 0) (sym (z .counters)) in
+    let w : packedWords c [] ≡ replicate (length ws) 0 = words-zero c ∙ ap (λ (n : ℕ). replicate n 0) (sym (z .words)) in
+    let k : builtCounters c [] ≡ replicate (length cs) 0 = counters-zero c ∙ ap (λ (n : ℕ). replicate n 0) (sym (z .counters)) in
     subst (λ (x : List ℕ). Fits (handle c 0) (replicate (length ws) 0) x) k
-    (subst (λ (x : List ℕ). Fits (handle c 0) x (countersLaid c [])) w (laid-fits c [] (z .step) (omega arith) none))
+    (subst (λ (x : List ℕ). Fits (handle c 0) x (builtCounters c [])) w (built-fits c [] (z .step) (omega arith) none))
 
 -- add
 pub push-again : (h : Handle) (ws cs : List ℕ) (v : ℕ) → judge (pushTable h (length ws) (length cs) v) ≡ none
-    → Fits (handle (h .capacity) (length (held h ws ++ (v ∷ [])))) (wordsLaid (h .capacity) (held h ws ++ (v ∷ [])))
-    (countersLaid (h .capacity) (held h ws ++ (v ∷ [])))
+    → Fits (handle (h .capacity) (length (held h ws ++ (v ∷ [])))) (packedWords (h .capacity) (held h ws ++ (v ∷ [])))
+    (builtCounters (h .capacity) (held h ws ++ (v ∷ [])))
 push-again h ws cs v pass =
     let ls = valueLine v ∷ (leb (h .capacity) (h .length) ⇒ 7) ∷ [] in
     let z = sizes-of h ws cs ls pass in
@@ -110,40 +110,40 @@ push-again h ws cs v pass =
     let small : v ≤ 1 = ltb-false _ _ (l .0) in
     let room : h .length < h .capacity = leb-false _ _ (l .1 .0) in
     let one : length (v ∷ []) ≡ 1 = refl in
-    laid-fits (h .capacity) (held h ws ++ (v ∷ [])) (z .step)
+    built-fits (h .capacity) (held h ws ++ (v ∷ [])) (z .step)
     (omega (arith, length-append (held h ws) (v ∷ []), one, strip-length ws (h .length)))
     (push-bits (held h ws) v (held-bits h ws) small)
 
 -- turn
 pub flip-again : (h : Handle) (ws cs : List ℕ) (i : ℕ) → judge (flipTable h (length ws) (length cs) i) ≡ none
     → Fits (handle (h .capacity) (length (set (held h ws) i (1 - cell (held h ws) i))))
-    (wordsLaid (h .capacity) (set (held h ws) i (1 - cell (held h ws) i))) (countersLaid (h .capacity) (set (held h ws) i (1 - cell (held h ws) i)))
+    (packedWords (h .capacity) (set (held h ws) i (1 - cell (held h ws) i))) (builtCounters (h .capacity) (set (held h ws) i (1 - cell (held h ws) i)))
 flip-again h ws cs i pass =
-    let z = sizes-of h ws cs (belowLine h i ∷ []) pass in
+    let z = sizes-of h ws cs (belowLine (h .length) i ∷ []) pass in
     let b : ℕ = 1 - cell (held h ws) i in
-    laid-fits (h .capacity) (set (held h ws) i b) (z .step)
+    built-fits (h .capacity) (set (held h ws) i b) (z .step)
     (omega (arith, length-set (held h ws) i b, strip-length ws (h .length), z .long))
     (set-bits (held h ws) i b (held-bits h ws) (omega arith))
 
 -- run
 pub fill-again : (h : Handle) (ws cs : List ℕ) (a b v : ℕ) → judge (fillTable h (length ws) (length cs) a b v) ≡ none
-    → Fits (handle (h .capacity) (length (filled (held h ws) a b v))) (wordsLaid (h .capacity) (filled (held h ws) a b v))
-    (countersLaid (h .capacity) (filled (held h ws) a b v))
+    → Fits (handle (h .capacity) (length (filled (held h ws) a b v))) (packedWords (h .capacity) (filled (held h ws) a b v))
+    (builtCounters (h .capacity) (filled (held h ws) a b v))
 fill-again h ws cs a b v pass =
-    let ls = valueLine v ∷ (ltb b a ⇒ 5) ∷ withinLine h b ∷ [] in
+    let ls = valueLine v ∷ (ltb b a ⇒ 5) ∷ withinLine (h .length) b ∷ [] in
     let z = sizes-of h ws cs ls pass in
     let small : v ≤ 1 = ltb-false _ _ (lines-of h ws cs ls pass .0) in
-    laid-fits (h .capacity) (filled (held h ws) a b v) (z .step)
+    built-fits (h .capacity) (filled (held h ws) a b v) (z .step)
     (omega (arith, filled-length (held h ws) a b v, strip-length ws (h .length), z .long))
     (filled-bits (held h ws) a b v (held-bits h ws) small)
 
 -- cut
 pub truncate-again : (h : Handle) (ws cs : List ℕ) (n : ℕ) → judge (truncateTable h (length ws) (length cs) n) ≡ none
-    → Fits (handle (h .capacity) (length (take n (held h ws)))) (wordsLaid (h .capacity) (take n (held h ws)))
-    (countersLaid (h .capacity) (take n (held h ws)))
+    → Fits (handle (h .capacity) (length (take n (held h ws)))) (packedWords (h .capacity) (take n (held h ws)))
+    (builtCounters (h .capacity) (take n (held h ws)))
 truncate-again h ws cs n pass =
-    let z = sizes-of h ws cs (withinLine h n ∷ []) pass in
-    let within : n ≤ h .length = ltb-false _ _ (lines-of h ws cs (withinLine h n ∷ []) pass .0) in
+    let z = sizes-of h ws cs (withinLine (h .length) n ∷ []) pass in
+    let within : n ≤ h .length = ltb-false _ _ (lines-of h ws cs (withinLine (h .length) n ∷ []) pass .0) in
     let room : n ≤ length (held h ws) = omega (arith, strip-length ws (h .length)) in
-    laid-fits (h .capacity) (take n (held h ws)) (z .step) (omega (arith, length-take-le n (held h ws) room, z .long))
+    built-fits (h .capacity) (take n (held h ws)) (z .step) (omega (arith, length-take-le n (held h ws) room, z .long))
     (take-bits n (held h ws) room (held-bits h ws))

@@ -4,7 +4,7 @@ use mathlib.Core.Path.{_≡_, sym, ap, ap₂, _∙_}
 use mathlib.Core.Bool.{Bool, true, false, cond, _&&_}
 use mathlib.Core.Logic.{_⊎_, inl, inr}
 use mathlib.Core.List.{List, [], _∷_, _++_}
-use Prim.Native.Nat.{ℕ, _+_, _-_, _*_, _/_, _^_, _≤_, _<_}
+use Prim.Native.Nat.{ℕ, _+_, _*_, _/_, _^_, _≤_, _<_}
 use native.Mathlib.Nat.{mod-eq-of-lt, le-refl}
 use native.Mathlib.Decide.{ℕ-discrete}
 use native.Mathlib.Omega.{arith}
@@ -21,12 +21,12 @@ use Rattle.words.proofs.WordLaws.{bitAt-le, bitAt-past}
 use Rattle.words.proofs.SearchLaws.{rank-ones}
 use Rattle.words.proofs.StripLaws.{strip-length, strip-cell, strip-rank}
 use Rattle.counters.specs.Tree.{blocksOf, counter, counterCount, indexOf, counts}
-use Rattle.counters.specs.Record.{wordsLaid, countersLaid}
-use Rattle.counters.specs.Working.{movedBy, AllFit, PathRaised}
+use Rattle.counters.specs.Record.{packedWords, builtCounters, AllFit}
+use Rattle.counters.specs.Working.{movedBy, PathRaised}
 use Rattle.counters.specs.Promises.{done, outcome, BitPut, PathMoved}
-use Rattle.counters.specs.Calls.{afresh, filled}
+use Rattle.counters.specs.Calls.{rebuilt, filled}
 use Rattle.counters.proofs.FlipLaws.{OneMore, counter-flip}
-use Rattle.counters.proofs.LaidLaws.{counter-ext, counter-lt, fits-laid}
+use Rattle.counters.proofs.BuiltLaws.{counter-ext, counter-lt, fits-built}
 
 -- ---- one position written
 -- the positions but p stay
@@ -144,14 +144,14 @@ path-moved n p d cs ds path =
     }
 
 -- ---- the record laid afresh
-pub afresh-is : (c m x y : ℕ) (s vs ds : List ℕ) → stripOf vs m ≡ s → length vs ≡ c / 64 → length ds ≡ counterCount (blocksOf c)
+pub rebuilt-is : (c m x y : ℕ) (s vs ds : List ℕ) → stripOf vs m ≡ s → length vs ≡ c / 64 → length ds ≡ counterCount (blocksOf c)
     → ((k : ℕ) → getD vs k 0 < 2 ^ 64) → PastZero vs m → AllFit (bitAt vs) (blocksOf c) ds
-    → outcome (done (handle c m) x y) vs ds ≡ afresh c s x y
-afresh-is c m x y s vs ds e lv ld small clean fit =
-    let laid = fits-laid (handle c m) vs ds lv ld small (record { clean = clean; right = fit }) in
+    → outcome (done (handle c m) x y) vs ds ≡ rebuilt c s x y
+rebuilt-is c m x y s vs ds e lv ld small clean fit =
+    let built = fits-built (handle c m) vs ds lv ld small (record { clean = clean; right = fit }) in
     let n : m ≡ length s = sym (strip-length vs m) ∙ ap length e in
-    ap₂ (λ (h : ℕ) (w : List ℕ). outcome (done (handle c h) x y) w ds) n (laid .0 ∙ ap (wordsLaid c) e)
-    ∙ ap (λ (d : List ℕ). outcome (done (handle c (length s)) x y) (wordsLaid c s) d) (laid .1 ∙ ap (countersLaid c) e)
+    ap₂ (λ (h : ℕ) (w : List ℕ). outcome (done (handle c h) x y) w ds) n (built .0 ∙ ap (packedWords c) e)
+    ∙ ap (λ (d : List ℕ). outcome (done (handle c (length s)) x y) (packedWords c s) d) (built .1 ∙ ap (builtCounters c) e)
 
 -- ---- the ones held
 pub held-ones : (vs : List ℕ) (n c : ℕ) (s : List ℕ) → stripOf vs n ≡ s → n ≤ c → PastZero vs n → ones (bitAt vs) c ≡ rank s 1 n

@@ -9,7 +9,8 @@ use lib.ListN.{getD, take, drop}
 use Rattle.words.specs.Bits.{ones}
 use Rattle.words.proofs.Sums.{ones-flat, part-at}
 use Rattle.counters.specs.Tree.{nodes, height, childBits, childOnes, fromChild, toChild, counter}
-use Rattle.counters.specs.Working.{Node, LevelFits, AllFit}
+use Rattle.counters.specs.Record.{AllFit}
+use Rattle.counters.specs.Working.{Node, LevelFits}
 use Rattle.counters.proofs.TreeLaws.{height-pos, nodes-root, root-covers, prefix, prefix-zero, prefix-up, prefix-suc, from-summary, to-summary, from-key, to-key, counter-prefix, start, index-is}
 
 -- where the counters of a level that fits stand

@@ -10,7 +10,7 @@ use borrow.Author.Tests.{le-leb, lt-leb, lt-ltb, le-ltb, eq-eqb, ne-eqb, eqb-tru
 use Rattle.words.specs.Bits.{ones}
 use Rattle.words.proofs.Sums.{lt-or, ones-zero, ones-suc, ones-split, ones-ext, ones-most, ones-none, ones-outside, ones-range}
 use Rattle.words.proofs.BoolLaws.{and-intro}
-use Rattle.counters.specs.Tree.{nodes, height, childBits, fromChild, toChild, counter, childOf, slot, counts, changed}
+use Rattle.counters.specs.Tree.{nodes, height, childBits, fromChild, toChild, counter, childOf, slot, counts, changeCount}
 use Rattle.counters.proofs.TreeLaws.{childBits-pos, childOf-suc, height-le, nodes-cover, prefix, counter-prefix, from-summary, to-summary, from-key, to-key, from-to}
 
 -- ---- one bit more
@@ -198,14 +198,14 @@ level-changed n t p a h =
 
 -- the number of counters that count a stroke is the sum of 15 − (c mod 8) − (c div 8)
 pub changed-number : (n p : ℕ) → p < 512 * n
-    → ones (λ s. ones (λ y. cond (counts (s + 1) (y / 72) (y % 72) p) 1 0) (72 * nodes n (s + 1))) (height n) ≡ changed n p
-unfolding changed
+    → ones (λ s. ones (λ y. cond (counts (s + 1) (y / 72) (y % 72) p) 1 0) (72 * nodes n (s + 1))) (height n) ≡ changeCount n p
+unfolding changeCount
 changed-number n p h =
     ones-ext (λ s. ones (λ y. cond (counts (s + 1) (y / 72) (y % 72) p) 1 0) (72 * nodes n (s + 1))) (λ s. 15 - slot (s + 1) p % 8 - slot (s + 1) p / 8) (height n)
     (λ s l. level-changed n (s + 1) p (omega arith) h)
 
 -- never more than 15 at each of three levels
-pub changed-le : (n p : ℕ) → changed n p ≤ 45
-unfolding changed
-changed-le n p =
+pub changeCount-le : (n p : ℕ) → changeCount n p ≤ 45
+unfolding changeCount
+changeCount-le n p =
     omega (arith, ones-most (λ s. 15 - slot (s + 1) p % 8 - slot (s + 1) p / 8) 15 (height n) (λ s. omega arith), height-le n)

@@ -1,11 +1,11 @@
 pub mod TreeLaws
 pub mod FlipLaws
 pub mod FitLaws
-pub mod LaidLaws
+pub mod BuiltLaws
 pub mod SpliceLaws
 pub mod RaiseLaws
 pub mod RankLaws
-pub mod LayLaws
+pub mod BuildLaws
 pub mod SelectionLaws
 pub mod ChangeLaws
 pub mod PromiseLaws

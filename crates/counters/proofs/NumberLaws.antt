@@ -14,11 +14,11 @@ use borrow.Author.Tests.{eq-eqb, ne-eqb, eqb-true, eqb-false}
 use Rattle.words.specs.Bits.{ones, listOf}
 use Rattle.words.specs.Strip.{cell}
 use Rattle.words.proofs.Sums.{lt-or, ones-zero, ones-suc, ones-split, ones-ext, length-listOf, getD-listOf}
-use Rattle.counters.specs.Tree.{blocksOf, nodes, height, counter, total, counterCount, counts, changed, levels, differ}
-use Rattle.counters.specs.Record.{countersLaid}
+use Rattle.counters.specs.Tree.{blocksOf, nodes, height, counter, total, counterCount, counts, changeCount, levels, differ}
+use Rattle.counters.specs.Record.{builtCounters}
 use Rattle.counters.proofs.TreeLaws.{total-zero, total-suc}
 use Rattle.counters.proofs.FlipLaws.{OneMore, counter-flip, changed-number}
-use Rattle.counters.proofs.LaidLaws.{levels-ext}
+use Rattle.counters.proofs.BuiltLaws.{levels-ext}
 
 -- ---- two lists
 -- a test of equality, either way
@@ -91,11 +91,11 @@ module _ (f g : ℕ → ℕ) (n p : ℕ) (more : OneMore f g p) where
       ∙ omega (arith, ones-suc (λ s. counting (s + 1)) t)
 
   -- of all
-  pub number-up : p < 512 * n → differ (levels f n (height n)) (levels g n (height n)) (counterCount n) ≡ changed n p
+  pub number-up : p < 512 * n → differ (levels f n (height n)) (levels g n (height n)) (counterCount n) ≡ changeCount n p
   number-up h = levels-number (height n) ∙ changed-number n p h
 
   -- and one bit less
-  pub number-down : p < 512 * n → differ (levels g n (height n)) (levels f n (height n)) (counterCount n) ≡ changed n p
+  pub number-down : p < 512 * n → differ (levels g n (height n)) (levels f n (height n)) (counterCount n) ≡ changeCount n p
   number-down h = differ-sym (levels g n (height n)) (levels f n (height n)) (counterCount n) ∙ number-up h
 
 -- ---- a strip with one bit turned
@@ -110,23 +110,23 @@ set-less s p b h e =
 
 -- the counters laid afresh differ in as many places as turn answers
 pub flip-number : (c : ℕ) (s : List ℕ) (p : ℕ) → c % 512 ≡ 0 → length s ≤ c → p < length s → cell s p ≤ 1
-    → differ (countersLaid c s) (countersLaid c (set s p (1 - cell s p))) (counterCount (blocksOf c)) ≡ changed (blocksOf c) p
-unfolding countersLaid
+    → differ (builtCounters c s) (builtCounters c (set s p (1 - cell s p))) (counterCount (blocksOf c)) ≡ changeCount (blocksOf c) p
+unfolding builtCounters
 flip-number c s p whole within below small = go (lt-or (cell s p) 1)
   where
     go : (cell s p < 1) ⊎ (1 ≤ cell s p)
         → differ (levels (cell s) (blocksOf c) (height (blocksOf c)))
-        (levels (cell (set s p (1 - cell s p))) (blocksOf c) (height (blocksOf c))) (counterCount (blocksOf c)) ≡ changed (blocksOf c) p
+        (levels (cell (set s p (1 - cell s p))) (blocksOf c) (height (blocksOf c))) (counterCount (blocksOf c)) ≡ changeCount (blocksOf c) p
     go (inl l) =
         number-up (cell s) (cell (set s p (1 - cell s p))) (blocksOf c) p (set-more s p (1 - cell s p) below (omega arith)) (omega arith)
     go (inr l) =
         number-down (cell (set s p (1 - cell s p))) (cell s) (blocksOf c) p (set-less s p (1 - cell s p) below (omega arith)) (omega arith)
 
 -- of a full strip, by the number of its counters and the number of changes
-pub full-number : (c p m d : ℕ) → c % 512 ≡ 0 → p < c → counterCount (blocksOf c) ≡ m → changed (blocksOf c) p ≡ d
-    → differ (countersLaid c (replicate c 1)) (countersLaid c (set (replicate c 1) p (1 - cell (replicate c 1) p))) m ≡ d
+pub full-number : (c p m d : ℕ) → c % 512 ≡ 0 → p < c → counterCount (blocksOf c) ≡ m → changeCount (blocksOf c) p ≡ d
+    → differ (builtCounters c (replicate c 1)) (builtCounters c (set (replicate c 1) p (1 - cell (replicate c 1) p))) m ≡ d
 full-number c p m d whole below count number =
-    ap (differ (countersLaid c (replicate c 1)) (countersLaid c (set (replicate c 1) p (1 - cell (replicate c 1) p)))) (sym count)
+    ap (differ (builtCounters c (replicate c 1)) (builtCounters c (set (replicate c 1) p (1 - cell (replicate c 1) p)))) (sym count)
     ∙ flip-number c (replicate c 1) p whole (omega (arith, length-replicate {A = ℕ} c 1)) (omega (arith, length-replicate {A = ℕ} c 1))
     (omega (arith, getD-replicate {A = ℕ} c p 1 0 below))
     ∙ number
@@ -152,13 +152,13 @@ push-more s =
 
 -- the counters laid afresh differ in as many places as add of 1 answers
 pub push-number : (c : ℕ) (s : List ℕ) → c % 512 ≡ 0 → length s < c
-    → differ (countersLaid c s) (countersLaid c (s ++ (1 ∷ []))) (counterCount (blocksOf c)) ≡ changed (blocksOf c) (length s)
-unfolding countersLaid
+    → differ (builtCounters c s) (builtCounters c (s ++ (1 ∷ []))) (counterCount (blocksOf c)) ≡ changeCount (blocksOf c) (length s)
+unfolding builtCounters
 push-number c s whole room = number-up (cell s) (cell (s ++ (1 ∷ []))) (blocksOf c) (length s) (push-more s) (omega arith)
 
 -- and none for 0: they are the same
-pub push-same : (c : ℕ) (s : List ℕ) → countersLaid c (s ++ (0 ∷ [])) ≡ countersLaid c s
-unfolding countersLaid
+pub push-same : (c : ℕ) (s : List ℕ) → builtCounters c (s ++ (0 ∷ [])) ≡ builtCounters c s
+unfolding builtCounters
 push-same c s =
     levels-ext (cell (s ++ (0 ∷ []))) (cell s) (blocksOf c) (height (blocksOf c)) (λ q. each q (ℕ-discrete q (length s)))
   where

@@ -22,12 +22,12 @@ use Rattle.words.proofs.Sums.{lt-or}
 use Rattle.words.proofs.WordLaws.{bitAt-le, bitAt-past}
 use Rattle.words.proofs.CheckLaws.{not-both, judged-refuse, Passes, passes, passed-both, checked}
 use Rattle.words.proofs.StripLaws.{strip-cell}
-use Rattle.counters.specs.Tree.{blocksOf, counterCount, changed}
-use Rattle.counters.specs.Record.{Fits}
-use Rattle.counters.specs.Working.{AllFit, PathRaised}
+use Rattle.counters.specs.Tree.{blocksOf, counterCount, changeCount}
+use Rattle.counters.specs.Record.{Fits, AllFit}
+use Rattle.counters.specs.Working.{PathRaised}
 use Rattle.counters.specs.Promises.{done, outcome, Promise, Near, near}
-use Rattle.counters.specs.Calls.{checks, held, afresh, pushTable, Pushed, flipTable, Flipped, filled}
-use Rattle.counters.proofs.FlipLaws.{changed-le}
+use Rattle.counters.specs.Calls.{checks, held, rebuilt, pushTable, Pushed, flipTable, Flipped, filled}
+use Rattle.counters.proofs.FlipLaws.{changeCount-le}
 use Rattle.counters.proofs.ChangeLaws as C
 
 -- ---- the two cases of a promise
@@ -75,7 +75,7 @@ high-zero h ws cs vs z l q a = bitAt-past vs q (omega (arith, z .words, z .most)
 -- ---- turn
 module _ (h : Handle) (ws vs cs ds : List ℕ) (i number d : ℕ) (z : Sizes h ws cs) (below : i < h .length)
     (put : RangePut ws i (i + 1) (1 - bitAt ws i) vs) (small : (k : ℕ) → getD vs k 0 < 2 ^ 64)
-    (path : PathRaised (blocksOf (h .capacity)) i d cs ds) (count : number ≡ changed (blocksOf (h .capacity)) i)
+    (path : PathRaised (blocksOf (h .capacity)) i d cs ds) (count : number ≡ changeCount (blocksOf (h .capacity)) i)
     (step : d ≡ cond (eqb (1 - bitAt ws i) 1) 1 (2 ^ 32 - 1)) where
   -- the counters fit the changed words
   flip-fits : AllFit (bitAt ws) (blocksOf (h .capacity)) cs → AllFit (bitAt vs) (blocksOf (h .capacity)) ds
@@ -100,12 +100,12 @@ module _ (h : Handle) (ws vs cs ds : List ℕ) (i number d : ℕ) (z : Sizes h w
   flip-done pass =
       let e : 1 - bitAt ws i ≡ 1 - cell (held h ws) i = ap (λ (b : ℕ). 1 - b) (sym (strip-cell ws (h .length) i below)) in
       promise-passed (flipTable h (length ws) (length cs) i) _ _ (Fits h ws cs) _ (outcome (done h (1 - bitAt ws i) number) vs ds) pass
-      (λ f. C.afresh-is (h .capacity) (h .length) (1 - bitAt ws i) number (set (held h ws) i (1 - bitAt ws i)) vs ds
+      (λ f. C.rebuilt-is (h .capacity) (h .length) (1 - bitAt ws i) number (set (held h ws) i (1 - bitAt ws i)) vs ds
       (C.flip-strip ws vs (h .length) i (1 - bitAt ws i) below put) (put .long ∙ z .words) (path .long ∙ z .counters) small
       (C.put-clean ws vs i (i + 1) (h .length) (1 - bitAt ws i) put (omega arith) (f .clean)) (flip-fits (f .right))
-      ∙ ap₂ (λ (x y : ℕ). afresh (h .capacity) (set (held h ws) i x) x y) e count)
+      ∙ ap₂ (λ (x y : ℕ). rebuilt (h .capacity) (set (held h ws) i x) x y) e count)
       (subst (λ (x : ℕ). Near h h x i x ws cs (outcome (done h (1 - bitAt ws i) number) vs ds)) e
-      (near number vs ds (omega (arith, count, changed-le (blocksOf (h .capacity)) i)) (C.put-bit ws vs i (1 - bitAt ws i) put)
+      (near number vs ds (omega (arith, count, changeCount-le (blocksOf (h .capacity)) i)) (C.put-bit ws vs i (1 - bitAt ws i) put)
       (C.path-moved (blocksOf (h .capacity)) i d cs ds path)))
 
 -- ---- add
@@ -114,19 +114,19 @@ module _ (h : Handle) (ws vs cs : List ℕ) (v : ℕ) (z : Sizes h ws cs) (room 
     (put : RangePut ws (h .length) (h .length + 1) v vs) (small : (k : ℕ) → getD vs k 0 < 2 ^ 64)
     (pass : judge (pushTable h (length ws) (length cs) v) ≡ none) where
   -- done, with the counters ds
-  push-with : (number : ℕ) (ds : List ℕ) → number ≡ cond (eqb v 1) (changed (blocksOf (h .capacity)) (h .length)) 0 → length ds ≡ length cs
+  push-with : (number : ℕ) (ds : List ℕ) → number ≡ cond (eqb v 1) (changeCount (blocksOf (h .capacity)) (h .length)) 0 → length ds ≡ length cs
       → (Fits h ws cs → AllFit (bitAt vs) (blocksOf (h .capacity)) ds)
       → Near h (handle (h .capacity) (h .length + 1)) (h .length) (h .length) v ws cs (outcome (done (handle (h .capacity) (h .length + 1)) (h .length) number) vs ds)
       → Pushed h v ws cs (outcome (done (handle (h .capacity) (h .length + 1)) (h .length) number) vs ds)
   push-with number ds count long fit loose =
       promise-passed (pushTable h (length ws) (length cs) v) _ _ (Fits h ws cs) _
       (outcome (done (handle (h .capacity) (h .length + 1)) (h .length) number) vs ds) pass
-      (λ f. C.afresh-is (h .capacity) (h .length + 1) (h .length) number (held h ws ++ (v ∷ [])) vs ds
+      (λ f. C.rebuilt-is (h .capacity) (h .length + 1) (h .length) number (held h ws ++ (v ∷ [])) vs ds
       (C.push-strip ws vs (h .length) v put) (put .long ∙ z .words) (long ∙ z .counters) small
       (C.put-clean ws vs (h .length) (h .length + 1) (h .length + 1) v put (native.Mathlib.Nat.le-refl (h .length + 1))
       (λ p l. f .clean p (omega arith)))
       (fit f)
-      ∙ ap (λ (y : ℕ). afresh (h .capacity) (held h ws ++ (v ∷ [])) (h .length) y) count)
+      ∙ ap (λ (y : ℕ). rebuilt (h .capacity) (held h ws ++ (v ∷ [])) (h .length) y) count)
       loose
 
   pub push-zero : v ≡ 0 → Pushed h v ws cs (outcome (done (handle (h .capacity) (h .length + 1)) (h .length) 0) vs cs)
@@ -143,7 +143,7 @@ module _ (h : Handle) (ws vs cs : List ℕ) (v : ℕ) (z : Sizes h ws cs) (room 
           go (yes q) = f .clean p (omega arith) ∙ sym (put .inside p (omega arith) (omega arith) ∙ e)
           go (no q) = sym (C.put-other ws vs (h .length) v put p q)
 
-  pub push-one : (number : ℕ) (ds : List ℕ) → v ≡ 1 → number ≡ changed (blocksOf (h .capacity)) (h .length)
+  pub push-one : (number : ℕ) (ds : List ℕ) → v ≡ 1 → number ≡ changeCount (blocksOf (h .capacity)) (h .length)
       → PathRaised (blocksOf (h .capacity)) (h .length) 1 cs ds
       → Pushed h v ws cs (outcome (done (handle (h .capacity) (h .length + 1)) (h .length) number) vs ds)
   push-one number ds e count path =
@@ -152,24 +152,24 @@ module _ (h : Handle) (ws vs cs : List ℕ) (v : ℕ) (z : Sizes h ws cs) (room 
       (C.put-more ws vs (h .length) (f .clean (h .length) (native.Mathlib.Nat.le-refl (h .length)))
       (subst (λ (x : ℕ). RangePut ws (h .length) (h .length + 1) x vs) e put))
       (bitAt-le vs) (high-zero h ws cs vs z (put .long)) (f .right) path)
-      (near number vs ds (omega (arith, count, changed-le (blocksOf (h .capacity)) (h .length))) (C.put-bit ws vs (h .length) v put)
+      (near number vs ds (omega (arith, count, changeCount-le (blocksOf (h .capacity)) (h .length))) (C.put-bit ws vs (h .length) v put)
       (C.path-moved (blocksOf (h .capacity)) (h .length) 1 cs ds path))
 
 -- ---- run and cut: all counters laid from the words
 pub fill-done : (h : Handle) (ws us vs cs ds : List ℕ) (a b v x : ℕ) → Sizes h ws cs → RangePut ws a b v us → RangePut us (h .length) (h .capacity) 0 vs
     → ((k : ℕ) → getD vs k 0 < 2 ^ 64) → length ds ≡ length cs → x ≡ ones (bitAt vs) (h .capacity) → AllFit (bitAt vs) (blocksOf (h .capacity)) ds
-    → outcome (done h x 0) vs ds ≡ afresh (h .capacity) (filled (held h ws) a b v) (rank (filled (held h ws) a b v) 1 (h .length)) 0
+    → outcome (done h x 0) vs ds ≡ rebuilt (h .capacity) (filled (held h ws) a b v) (rank (filled (held h ws) a b v) 1 (h .length)) 0
 fill-done h ws us vs cs ds a b v x z put wipe small long count fit =
     let s = C.fill-strip ws us vs (h .length) a b v (h .capacity) put wipe in
     let clean = C.wipe-clean us vs (h .length) (h .capacity) wipe (omega (arith, put .long, z .words)) in
-    C.afresh-is (h .capacity) (h .length) x 0 (filled (held h ws) a b v) vs ds s (wipe .long ∙ put .long ∙ z .words) (long ∙ z .counters) small clean fit
-    ∙ ap (λ (y : ℕ). afresh (h .capacity) (filled (held h ws) a b v) y 0) (count ∙ C.held-ones vs (h .length) (h .capacity) (filled (held h ws) a b v) s (z .long) clean)
+    C.rebuilt-is (h .capacity) (h .length) x 0 (filled (held h ws) a b v) vs ds s (wipe .long ∙ put .long ∙ z .words) (long ∙ z .counters) small clean fit
+    ∙ ap (λ (y : ℕ). rebuilt (h .capacity) (filled (held h ws) a b v) y 0) (count ∙ C.held-ones vs (h .length) (h .capacity) (filled (held h ws) a b v) s (z .long) clean)
 
 pub truncate-done : (h : Handle) (ws vs cs ds : List ℕ) (n x : ℕ) → Sizes h ws cs → n ≤ h .length → RangePut ws n (h .capacity) 0 vs
     → ((k : ℕ) → getD vs k 0 < 2 ^ 64) → length ds ≡ length cs → x ≡ ones (bitAt vs) (h .capacity) → AllFit (bitAt vs) (blocksOf (h .capacity)) ds
-    → outcome (done (handle (h .capacity) n) x 0) vs ds ≡ afresh (h .capacity) (take n (held h ws)) (rank (take n (held h ws)) 1 n) 0
+    → outcome (done (handle (h .capacity) n) x 0) vs ds ≡ rebuilt (h .capacity) (take n (held h ws)) (rank (take n (held h ws)) 1 n) 0
 truncate-done h ws vs cs ds n x z le wipe small long count fit =
     let s = C.cut-strip ws vs (h .length) n (h .capacity) le wipe in
     let clean = C.wipe-clean ws vs n (h .capacity) wipe (omega (arith, z .words)) in
-    C.afresh-is (h .capacity) n x 0 (take n (held h ws)) vs ds s (wipe .long ∙ z .words) (long ∙ z .counters) small clean fit
-    ∙ ap (λ (y : ℕ). afresh (h .capacity) (take n (held h ws)) y 0) (count ∙ C.held-ones vs n (h .capacity) (take n (held h ws)) s (omega (arith, z .long)) clean)
+    C.rebuilt-is (h .capacity) n x 0 (take n (held h ws)) vs ds s (wipe .long ∙ z .words) (long ∙ z .counters) small clean fit
+    ∙ ap (λ (y : ℕ). rebuilt (h .capacity) (take n (held h ws)) y 0) (count ∙ C.held-ones vs n (h .capacity) (take n (held h ws)) s (omega (arith, z .long)) clean)

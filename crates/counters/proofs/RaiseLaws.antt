@@ -11,12 +11,12 @@ use lib.ListN.{length, getD, take, drop, set, length-set}
 use lib.Seq.{getD-set-other}
 use borrow.Author.Tests.{le-leb, lt-leb}
 use Rattle.words.specs.Bits.{ones}
-use Rattle.words.proofs.Sums.{lt-or, ones-zero, ones-more}
-use Rattle.counters.specs.Tree.{nodes, height, fromChild, toChild, counterCount, indexOf, childOf, slot, counts, changed}
+use Rattle.words.proofs.Sums.{lt-or, ones-zero, ones-more, set-more}
+use Rattle.counters.specs.Tree.{nodes, height, fromChild, toChild, counterCount, indexOf, childOf, slot, counts, changeCount}
 use Rattle.counters.specs.Working.{movedBy, countsChild, PathRaised}
 use Rattle.counters.proofs.TreeLaws.{nodes-le, childOf-one, childOf-suc, from-summary, to-summary, from-key, to-key, from-to, start, index-is, Level, level-blocks, level-next, level-room, total-mono, height-le}
 use Rattle.counters.proofs.FlipLaws.{between-in, between-before, between-past, child-lt, counts-before, counts-past}
-use Rattle.counters.proofs.SpliceLaws.{set-more, splice, splice-length, splice-below, splice-above, splice-each}
+use Rattle.counters.proofs.SpliceLaws.{splice, splice-length, splice-below, splice-above, splice-each}
 
 -- ---- eight lanes
 -- a wrapping sum with d, or with 0
@@ -256,7 +256,7 @@ climb-more {n} {p} {d} {xs} {t} {ys} {count} {child} {end} {number} k next a m w
 
 -- all levels
 pub climb-done : {n p d : ℕ} {xs : List ℕ} {t : ℕ} {ys : List ℕ} {count child end number : ℕ} → Climb n p d xs t ys count child end number
-    → t ≡ height n → (number ≡ changed n p) × PathRaised n p d xs ys
-unfolding changed
+    → t ≡ height n → (number ≡ changeCount n p) × PathRaised n p d xs ys
+unfolding changeCount
 climb-done {p = p} k e =
     (k .number-is ∙ ap (ones (share p)) e, record { long = k .long; each = λ s j i a b l h. k .moved s j i a (omega arith) l h })

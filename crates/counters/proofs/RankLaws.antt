@@ -9,7 +9,8 @@ use Rattle.words.specs.Bits.{bitAt, ones}
 use Rattle.words.proofs.Sums.{part-ones}
 use Rattle.words.proofs.WordLaws.{block-bit}
 use Rattle.counters.specs.Tree.{nodes, height, fromChild, toChild, counterCount}
-use Rattle.counters.specs.Working.{Node, AllFit}
+use Rattle.counters.specs.Record.{AllFit}
+use Rattle.counters.specs.Working.{Node}
 use Rattle.counters.proofs.TreeLaws.{nodes-root, childBits-one, prefix, prefix-zero, prefix-up, from-summary, to-summary, from-key, to-key, Level, level-blocks, level-next, level-room}
 use Rattle.counters.proofs.FitLaws.{node-fits}
 

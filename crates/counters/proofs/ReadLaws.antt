@@ -1,70 +1,29 @@
--- What the counters say of a strip: the number of a value, and select in a longer list of cells. Assumes nothing.
+-- What count, find and check give, by what the counters say of a strip. Assumes nothing.
 use mathlib.Core.Path.{_≡_, refl, sym, ap, _∙_}
-use mathlib.Core.Bool.{Bool, true, false, cond}
-use mathlib.Core.Logic.{_⊎_, inl, inr}
 use mathlib.Core.List.{List}
 use mathlib.Core.Option.{some, none}
-use Prim.Native.Nat.{ℕ, _-_, _*_, _≤_, _<_}
+use Prim.Native.Nat.{ℕ, _*_, _≤_, _<_}
 use native.Mathlib.Omega.{arith}
-use lib.Dec.{eqb}
-use borrow.Author.Tests.{eq-eqb, ne-eqb}
 use lib.ListN.{length}
 use Rattle.words.specs.Bits.{bitAt, ones}
 use Rattle.words.specs.Strip.{holds, rankOf, selectOf, select}
+use Rattle.words.specs.Working.{ofValue}
 use Rattle.words.specs.Words.{placeIn}
 use Rattle.words.specs.Refusals.{numberOf, judge, verdictOf, value, refused, found}
 use Rattle.words.specs.declared.handle.Handle.{Handle}
 use Rattle.words.specs.declared.refusal.Refusal.{Refusal}
 use Rattle.words.specs.declared.refusal.Verdict.{Verdict}
 use Rattle.words.specs.declared.refusal.Verdict.the-variants.{Refuse}
-use Rattle.words.proofs.Sums.{lt-or, ones-flat, ones-le, ones-mono}
+use Rattle.words.proofs.Sums.{ones-flat, ones-le, ones-mono}
 use Rattle.words.proofs.WordLaws.{bitAt-le}
 use Rattle.words.proofs.CheckLaws.{not-both, judged-refuse}
-use Rattle.words.proofs.SearchLaws.{select-exists, select-place, select-at, select-none, rank-ones, rank-both}
+use Rattle.words.proofs.SearchLaws.{select-exists, select-place, select-none, select-longer, rank-le, rank-ones, value-rank, value-le}
 use Rattle.words.proofs.StripLaws.{strip-rank, strip-select}
 use Rattle.counters.specs.Tree.{blocksOf}
-use Rattle.counters.specs.Record.{Fits}
-use Rattle.counters.specs.Working.{AllFit}
+use Rattle.counters.specs.Record.{Fits, AllFit}
 use Rattle.counters.specs.Promises.{AtMost, Below}
 use Rattle.counters.specs.Calls.{checks, held, rankTable, Ranked, selectTable, Selected, Verified}
 use Rattle.counters.proofs.PromiseLaws.{promise-passed, Sizes}
-
--- the number of v among n cells of which x are ones
-abbrev pub ofValue : ℕ → ℕ → ℕ → ℕ
-ofValue v n x = cond (eqb v 1) x (n - x)
-
-pub value-one : (v n x : ℕ) → v ≡ 1 → ofValue v n x ≡ x
-value-one v n x e = simp (eq-eqb v 1 e)
-
-pub value-zero : (v n x : ℕ) → (v ≡ 1 → ⊥) → ofValue v n x ≡ n - x
-value-zero v n x d = simp (ne-eqb v 1 d)
-
--- of bits, that is count(v, n)
-pub value-rank : (f : ℕ → ℕ) (v n : ℕ) → ((p : ℕ) → f p ≤ 1) → v ≤ 1 → ofValue v n (ones f n) ≡ rankOf f v n
-value-rank f v n small h = go (lt-or v 1)
-  where
-    go : (v < 1) ⊎ (1 ≤ v) → ofValue v n (ones f n) ≡ rankOf f v n
-    go (inl l) =
-        let z : 0 ≡ v = omega arith in
-        value-zero v n (ones f n) (λ e. omega arith) ∙ omega (arith, rank-ones f n small, rank-both f n small) ∙ ap (λ (w : ℕ). rankOf f w n) z
-    go (inr l) =
-        let o : 1 ≡ v = omega arith in
-        value-one v n (ones f n) (sym o) ∙ sym (rank-ones f n small) ∙ ap (λ (w : ℕ). rankOf f w n) o
-
--- a stroke that is found among the first n cells is found among more
-pub select-longer : (f : ℕ → ℕ) (n c v k : ℕ) → n ≤ c → k < rankOf f v n → selectOf f c v k ≡ selectOf f n v k
-select-longer f n c v k h l =
-    let w = select-exists f n v k l in
-    let p = select-place f n v k (w .0) (w .1) in
-    select-at f c v k (w .0) (record { below = omega (arith, p .below); held = p .held; rank = p .rank }) ∙ sym (w .1)
-
--- at most as many as there are cells
-pub value-le : (v n x : ℕ) → x ≤ n → ofValue v n x ≤ n
-value-le v n x h = go (eqb v 1)
-  where
-    go : (b : Bool) → cond b x (n - x) ≤ n
-    go true = h
-    go false = omega arith
 
 -- ---- count
 module _ (h : Handle) (ws cs : List ℕ) (v i x : ℕ) (small : v ≤ 1) (within : i ≤ h .length)
@@ -83,6 +42,14 @@ module _ (h : Handle) (ws cs : List ℕ) (v i x : ℕ) (small : v ≤ 1) (within
       AtMost.unfit
 
 -- ---- find
+-- k not below the length: no such stroke, whatever the counters are
+pub select-beyond : (h : Handle) (ws cs : List ℕ) (v k : ℕ) → judge (selectTable h (length ws) (length cs) v) ≡ none → h .length ≤ k
+    → Selected h v k ws cs (refused 6)
+select-beyond h ws cs v k pass l =
+    promise-passed (selectTable h (length ws) (length cs) v) _ _ (Fits h ws cs) _ (refused 6) pass
+    (λ f. sym (ap found (strip-select ws (h .length) v k ∙ select-none (bitAt ws) (h .length) v k (omega (arith, rank-le (bitAt ws) v (h .length))))))
+    Below.absent
+
 module _ (h : Handle) (ws cs : List ℕ) (v k x : ℕ) (z : Sizes h ws cs) (small : v ≤ 1)
     (pass : judge (selectTable h (length ws) (length cs) v) ≡ none)
     (total : (f : ℕ → ℕ) → AllFit f (blocksOf (h .capacity)) cs → ((p : ℕ) → 512 * blocksOf (h .capacity) ≤ p → f p ≡ 0) → x ≡ ones f (512 * blocksOf (h .capacity)))

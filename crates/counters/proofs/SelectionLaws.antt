@@ -1,11 +1,10 @@
 -- The laws of select: the v among bits of which the ones are counted, the child of a node that holds the k-th v, the way down, and the position.
 -- Each holds for both values and all levels. Assumes nothing.
-use mathlib.Core.Path.{_≡_, refl, sym, ap, _∙_, subst}
+use mathlib.Core.Path.{_≡_, sym, ap, _∙_, subst}
 use mathlib.Core.Logic.{_⊎_, inl, inr}
 use mathlib.Core.List.{List}
-use Prim.Native.Nat.{ℕ, zero, suc, _+_, _-_, _*_, _/_, _%_, _^_, _≤_, _<_}
+use Prim.Native.Nat.{ℕ, zero, suc, _+_, _-_, _*_, _/_, _%_, _^_, _≤_, _<_, zero-le}
 use native.Mathlib.Nat.{le-refl, mul-one, mul-assoc, mul-left-comm, mul-add, mul-div-cancel-left, add-zero}
-use native.Mathlib.Numerals.{add-one}
 use native.Mathlib.Omega.{arith}
 use lib.ListN.{getD, take, drop}
 use lib.Dec.{lit<}
@@ -14,11 +13,11 @@ use Rattle.words.specs.Bits.{bitAt, ones}
 use Rattle.words.specs.Strip.{holds, rankOf, selectOf}
 use Rattle.words.specs.Words.{placeIn}
 use Rattle.words.specs.Working.{atMost}
-use Rattle.words.proofs.Sums.{lt-or, ones-more, ones-mono, ones-le}
-use Rattle.words.proofs.WordLaws.{holds-le, block-bit}
-use Rattle.words.proofs.SearchLaws.{Reached, reached, rank-ones, rank-both, rank-part, part-select, placeIn-none, placeIn-place}
+use Rattle.words.proofs.Sums.{lt-or, ones-zero, ones-more, ones-mono}
+use Rattle.words.proofs.WordLaws.{block-bit}
+use Rattle.words.proofs.SearchLaws.{Reached, reached, rank-ones, rank-both, rank-part, part-select}
 use Rattle.counters.specs.Tree.{nodes, height, childBits, fromChild, toChild, counterCount}
-use Rattle.counters.specs.Working.{AllFit}
+use Rattle.counters.specs.Record.{AllFit}
 use Rattle.counters.specs.Descent.{Valued, Rising, Counted, Lies, valuesBefore}
 use Rattle.counters.proofs.TreeLaws.{nodes-root, childBits-one, childBits-pos, root-covers, prefix, prefix-mono, prefix-zero, prefix-up, from-summary, to-summary, from-key, to-key, from-to, start, start-next, Level}
 use Rattle.counters.proofs.FitLaws.{fit-sum}
@@ -34,35 +33,60 @@ sub-exact a b r h e l = omega arith
 pub times-more : (a i : ℕ) → a * (i + 1) ≡ a * i + a
 times-more a i = mul-add a i 1 ∙ ap (λ (n : ℕ). a * i + n) (mul-one a)
 
--- one more number, at most k or above it
-pub reached-more : (P : ℕ → ℕ) (k i n m x : ℕ) → x ≡ P i → n ≡ ones (atMost P k) i → ((x ≤ k) × (m ≡ n + 1)) ⊎ ((k < x) × (m ≡ n)) → m ≡ ones (atMost P k) (i + 1)
-reached-more P k i n m x e h (inl w) =
-    let t : atMost P k i ≡ 1 = simp (le-leb (P i) k (subst (λ (y : ℕ). y ≤ k) e (w .0))) in
-    omega (arith, ones-more (atMost P k) i, t, w .1)
-reached-more P k i n m x e h (inr w) =
-    let t : atMost P k i ≡ 0 = simp (lt-leb (P i) k (subst (λ (y : ℕ). k < y) e (w .0))) in
-    omega (arith, ones-more (atMost P k) i, t, w .1)
+-- ---- one of eight parts
 
--- ---- one of eight: B m is the v before part m
+-- P m is the v in the first m parts. Of the parts from 1 to i, n end with at most k of v, and there are `last` of v up to the last of these
+pub record Passed (P : ℕ → ℕ) (k i n last : ℕ) : Type 0 where
+  pub reach : n ≡ ones (atMost (λ j. P (j + 1)) k) i
+  pub value : Rising P → P 0 ≡ 0 → last ≡ P n
 
--- the v in the first i + 1 parts
-abbrev pub gain : (ℕ → ℕ) → ℕ → ℕ
-gain B i = B (i + 1) - B 0
+-- at the start
+pub passed-none : (P : ℕ → ℕ) (k : ℕ) → Passed P k 0 0 0
+passed-none P k = record { reach = sym (ones-zero (atMost (λ j. P (j + 1)) k)); value = (λ up z. sym z) }
 
--- as many parts as have at most k of v lie before the one with the k-th
-pub eighth : (B : ℕ → ℕ) (k n c : ℕ) → Rising B → B 0 + k ≡ n → n < B 8 → c ≡ ones (atMost (gain B) k) 7 → (B c ≤ n) × (n < B (c + 1))
-eighth B k n c up e top h =
-    let r : Reached (gain B) k 7 c = subst (λ (m : ℕ). Reached (gain B) k 7 m) (sym h) (reached (gain B) k 7 rise) in
-    (low c (r .low), high (lt-or c 7) (r .within) (r .above))
+-- one more part, up to which there are x of v: at most k or above it
+pub passed-more : (P : ℕ → ℕ) (k i n m x last next : ℕ) → x ≡ P (i + 1) → Passed P k i n last
+    → ((x ≤ k) × ((m ≡ n + 1) × (next ≡ x))) ⊎ ((k < x) × ((m ≡ n) × (next ≡ last)))
+    → Passed P k (i + 1) m next
+passed-more P k i n m x last next e h (inl w) =
+    let t : atMost (λ j. P (j + 1)) k i ≡ 1 = simp (le-leb (P (i + 1)) k (subst (λ (y : ℕ). y ≤ k) e (w .0))) in
+    record { reach = omega (arith, ones-more (atMost (λ j. P (j + 1)) k) i, t, w .1, h .reach); value = value }
   where
-    rise : (i j : ℕ) → i ≤ j → gain B i ≤ gain B j
-    rise i j l = let u : i + 1 ≤ j + 1 = omega arith in omega (arith, up (i + 1) (j + 1) u)
+    value : Rising P → P 0 ≡ 0 → next ≡ P m
+    value up z =
+        let r : Reached (λ j. P (j + 1)) k i n =
+        subst (λ (c : ℕ). Reached (λ j. P (j + 1)) k i c) (sym (h .reach)) (reached (λ j. P (j + 1)) k i (λ a b l. up (a + 1) (b + 1) (omega arith))) in
+        all r (lt-or n i)
+      where
+        all : Reached (λ j. P (j + 1)) k i n → (n < i) ⊎ (i ≤ n) → next ≡ P m
+        all r (inl l) = absurd (omega (arith, r .above l, up (n + 1) (i + 1) (omega arith), e, w .0))
+        all r (inr l) = let s : i + 1 ≡ m = omega (arith, r .within, w .1) in w .1 .1 ∙ e ∙ ap P s
+passed-more P k i n m x last next e h (inr w) =
+    let t : atMost (λ j. P (j + 1)) k i ≡ 0 = simp (lt-leb (P (i + 1)) k (subst (λ (y : ℕ). k < y) e (w .0))) in
+    record {
+      reach = omega (arith, ones-more (atMost (λ j. P (j + 1)) k) i, t, w .1, h .reach);
+      value = (λ up z. w .1 .1 ∙ h .value up z ∙ ap P (sym (w .1 .0)));
+    }
 
-    low : (m : ℕ) → ((j : ℕ) → j < m → gain B j ≤ k) → B m ≤ n
-    low zero l = omega arith
-    low (suc m) l = omega (arith, l m (omega arith), ap B (add-one m))
+-- B m is the v before part m; the v in the first m parts
+abbrev pub gain : (ℕ → ℕ) → ℕ → ℕ
+gain B m = B m - B 0
 
-    high : (c < 7) ⊎ (7 ≤ c) → c ≤ 7 → (c < 7 → k < gain B c) → n < B (c + 1)
+-- as many parts as end with at most k of v lie before the one with the k-th
+pub eighth : (B : ℕ → ℕ) (k n c left : ℕ) → Rising B → B 0 + k ≡ n → n < B 8 → c ≡ ones (atMost (λ i. gain B (i + 1)) k) 7
+    → (Rising (gain B) → gain B 0 ≡ 0 → gain B c + left ≡ k)
+    → Lies B n c left
+eighth B k n c left up e top h rest =
+    let r : Reached part k 7 c = subst (λ (m : ℕ). Reached part k 7 m) (sym h) (reached part k 7 (λ i j l. rise (i + 1) (j + 1) (omega arith))) in
+    record { under = omega (arith, rest rise (omega arith), up 0 c zero-le); over = high (lt-or c 7) (r .within) (r .above) }
+  where
+    part : ℕ → ℕ
+    part i = gain B (i + 1)
+
+    rise : Rising (gain B)
+    rise i j l = omega (arith, up i j l)
+
+    high : (c < 7) ⊎ (7 ≤ c) → c ≤ 7 → (c < 7 → k < gain B (c + 1)) → n < B (c + 1)
     high (inl l) w a = omega (arith, a l)
     high (inr l) w a = let s : c + 1 ≡ 8 = omega arith in subst (λ (m : ℕ). n < B m) (sym s) top
 
@@ -78,34 +102,20 @@ module _ (B : ℕ → ℕ) (v size : ℕ) (xs : List ℕ) (at : ℕ) (up : Risin
       subst (λ (q : ℕ). Valued v (size * d) (getD xs q 0) (B b - B a)) (sym ep) (subst (λ (q : ℕ). Valued v (size * q) (getD xs (at + i) 0) (B b - B a)) s w)
 
   -- the summaries from 1 on
-  pub group-valued : (i : ℕ) → i < 7 → Valued v (8 * size * (i + 1)) (getD xs (at + 1 + i) 0) (gain (λ m. B (8 * m)) i)
+  pub group-valued : (i : ℕ) → i < 7 → Valued v (8 * size * (i + 1)) (getD xs (at + 1 + i) 0) (gain (λ m. B (8 * m)) (i + 1))
   group-valued i h =
       let l : i + 1 < 8 = omega arith in
       let m : i + 1 < 72 = omega arith in
       let e : size * (8 * (i + 1)) ≡ 8 * size * (i + 1) = mul-left-comm size 8 (i + 1) ∙ sym (mul-assoc 8 size (i + 1)) in
-      subst (λ (q : ℕ). Valued v q (getD xs (at + 1 + i) 0) (gain (λ m. B (8 * m)) i)) e
+      subst (λ (q : ℕ). Valued v q (getD xs (at + 1 + i) 0) (gain (λ m. B (8 * m)) (i + 1))) e
       (valued (i + 1) 0 (8 * (i + 1)) (8 * (i + 1)) (at + 1 + i) m (from-summary (i + 1) l) (to-summary (i + 1) l) (omega arith) (omega arith))
 
-  -- the summary of group g
-  pub group-past : (g : ℕ) → g ≤ 7 → Valued v (size * (8 * g)) (getD xs (at + g) 0) (B (8 * g) - B 0)
-  group-past g h =
-      let l : g < 8 = omega arith in
-      valued g 0 (8 * g) (8 * g) (at + g) (omega arith) (from-summary g l) (to-summary g l) (omega arith) refl
-
   -- the keys of group g
-  pub key-valued : (g i : ℕ) → g ≤ 7 → i < 7 → Valued v (size * (i + 1)) (getD xs (at + 8 + 8 * g + i) 0) (gain (λ m. B (8 * g + m)) i)
+  pub key-valued : (g i : ℕ) → g ≤ 7 → i < 7 → Valued v (size * (i + 1)) (getD xs (at + 8 + 8 * g + i) 0) (gain (λ m. B (8 * g + m)) (i + 1))
   key-valued g i h l =
       let e : 8 * ((8 * g + i) / 8) ≡ 8 * g + 0 = omega arith in
       let b : 8 * g + i + 1 ≡ 8 * g + (i + 1) = omega arith in
       valued (8 + (8 * g + i)) (8 * g + 0) (8 * g + (i + 1)) (i + 1) (at + 8 + 8 * g + i) (omega arith) (from-key (8 * g + i) ∙ e) (to-key (8 * g + i) ∙ b) (omega arith) (omega arith)
-
-  -- the key before child i of group g
-  pub key-past : (g i : ℕ) → g ≤ 7 → (i ≡ 0 → ⊥) → i ≤ 7 → Valued v (size * i) (getD xs (at + 7 + 8 * g + i) 0) (B (8 * g + i) - B (8 * g))
-  key-past g zero h z l = absurd (z refl)
-  key-past g (suc i) h z l =
-      let e : 8 * ((8 * g + i) / 8) ≡ 8 * g = omega arith in
-      let b : 8 * g + i + 1 ≡ 8 * g + suc i = omega arith in
-      valued (8 + (8 * g + i)) (8 * g) (8 * g + suc i) (suc i) (at + 7 + 8 * g + suc i) (omega arith) (from-key (8 * g + i) ∙ e) (to-key (8 * g + i) ∙ b) refl (omega arith)
 
 -- ---- a level: f p is the bit at position p
 module _ (f : ℕ → ℕ) (v : ℕ) where
@@ -222,18 +232,6 @@ module _ (n v k : ℕ) (xs : List ℕ) where
       found B m up (subst (λ (s : ℕ). Counted B v s xs (from + 72 * j)) (sym es) (subst (λ (s : ℕ). Counted B v (childBits t) xs (s + 72 * j)) (sym (w .place .starts)) counts))))
 
 -- ---- the position
-
--- an answer is a position, or the end
-pub select-le : (f : ℕ → ℕ) (n v k : ℕ) → placeIn n (selectOf f n v k) ≤ n
-select-le f n v k = go (lt-or k (rankOf f v n))
-  where
-    go : (k < rankOf f v n) ⊎ (rankOf f v n ≤ k) → placeIn n (selectOf f n v k) ≤ n
-    go (inl l) = omega (arith, placeIn-place f n v k l .below)
-    go (inr l) = omega (arith, placeIn-none f n v k l)
-
--- no more v than positions
-pub rank-le : (f : ℕ → ℕ) (v n : ℕ) → rankOf f v n ≤ n
-rank-le f v n = ones-le (holds f v) n (holds-le f v)
 
 -- in block b, which holds the k-th v
 pub block-place : (ws : List ℕ) (n b v k left m r : ℕ) → m ≡ 8 → b < n → Lies (valuesBefore (bitAt ws) v 1) k b left

@@ -1,23 +1,11 @@
--- A list after a store, a part of it, and the whole after a part was lent and came back, by their elements. Assumes nothing.
+-- A part of a list, and the whole after a part was lent and came back, by their elements. Assumes nothing.
 use mathlib.Core.Path.{_≡_, sym, ap, _∙_}
-use mathlib.Core.Logic.{_⊎_, inl, inr}
 use mathlib.Core.List.{List, _++_}
 use Prim.Native.Nat.{ℕ, _+_, _-_, _≤_, _<_}
 use native.Mathlib.Omega.{arith}
-use lib.ListN.{length, getD, set, take, drop, length-append, length-drop, List·getD-append}
-use lib.Seq.{length-take-le, getD-take, getD-drop, getD-append-add, getD-set-same, getD-set-other}
-use Rattle.words.proofs.Sums.{lt-or, part-at}
-
--- the elements below c, and a store at c
-pub set-more : (h : ℕ → ℕ) (xs : List ℕ) (c v : ℕ) → c < length xs → ((d : ℕ) → d < c → getD xs d 0 ≡ h d) → v ≡ h c
-    → (d : ℕ) → d < c + 1 → getD (set xs c v) d 0 ≡ h d
-set-more h xs c v l low e d q = go (lt-or d c)
-  where
-    go : (d < c) ⊎ (c ≤ d) → getD (set xs c v) d 0 ≡ h d
-    go (inl m) = getD-set-other xs c d v 0 (λ u. omega arith) ∙ low d m
-    go (inr m) =
-        let s : d ≡ c = omega arith in
-        ap (λ (k : ℕ). getD (set xs c v) k 0) s ∙ getD-set-same xs c v 0 l ∙ e ∙ ap h (sym s)
+use lib.ListN.{length, getD, take, drop, length-append, length-drop, List·getD-append}
+use lib.Seq.{length-take-le, getD-take, getD-drop, getD-append-add}
+use Rattle.words.proofs.Sums.{part-at}
 
 -- the number of k elements from a on
 pub part-length : {A : Type 0} (xs : List A) (a k : ℕ) → a + k ≤ length xs → length (take k (drop a xs)) ≡ k

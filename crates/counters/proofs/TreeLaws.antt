@@ -7,13 +7,13 @@ use Prim.Native.Nat.{ℕ, zero, suc, _+_, _-_, _*_, _/_, _%_, _^_, _≤_, _<_}
 use native.Mathlib.Nat.{pow-suc, div-div-eq-div-mul, add-mul-div-left, div-one, mul-assoc, mul-comm, mul-zero, le-refl, mul-le-mul-left}
 use native.Mathlib.Numerals.{add-one}
 use native.Mathlib.Omega.{arith}
-use lib.Dec.{leb, lit<, lit≤}
+use lib.Dec.{leb, ltb, lit<, lit≤}
 use borrow.Author.Tests.{le-leb, lt-leb, lt-ltb, le-ltb}
 use Rattle.words.specs.Bits.{ones}
 use Rattle.words.specs.Strip.{least}
 use Rattle.words.specs.Words.{placeIn}
-use Rattle.words.proofs.Sums.{lt-or, ones-zero, ones-suc, ones-split, ones-mono}
-use Rattle.counters.specs.Tree.{nodes, height, childBits, childOnes, fromChild, toChild, counter, total, counterCount, indexOf, childOf}
+use Rattle.words.proofs.Sums.{lt-or, ones-zero, ones-suc, ones-split, ones-mono, ones-none}
+use Rattle.counters.specs.Tree.{nodes, height, childBits, childOnes, childrenOnes, summary, key, counter, fromChild, toChild, total, counterCount, indexOf, childOf}
 
 -- ---- powers of 64
 pub pow64-pos : (t : ℕ) → 0 < 64 ^ t
@@ -174,6 +174,14 @@ nodes-cover n (suc t) =
     ap (λ (x : ℕ). x * nodes n (suc t)) (childBits-suc t ∙ mul-comm 64 b) ∙ mul-assoc b 64 (nodes n (suc t)) in
     omega (arith, nodes-cover n t, mul-le-mul-left b up, e)
 
+-- an absent child counts 0: a child of level t + 1 past the nodes of level t, or past the blocks for t = 0, where f is 0 from block n on
+pub child-absent : (f : ℕ → ℕ) (n t m : ℕ) → ((p : ℕ) → 512 * n ≤ p → f p ≡ 0) → nodes n t ≤ m → childOnes f (suc t) m ≡ 0
+unfolding childOnes
+child-absent f n t m past h =
+    let b : ℕ = childBits (suc t) in
+    let l : 512 * n ≤ b * m = omega (arith, nodes-cover n t, mul-le-mul-left b h) in
+    ones-none (λ p. f (b * m + p)) b (λ p q. past (b * m + p) (omega arith))
+
 -- the root covers every block
 pub root-covers : (n : ℕ) → n ≤ 262144 → 512 * n ≤ childBits (suc (height n))
 unfolding childBits
@@ -241,12 +249,23 @@ from-to i h = go (lt-or i 8)
         let e : 8 + (i - 8) ≡ i = omega arith in
         omega (arith, from-key (i - 8), to-key (i - 8), ap fromChild e, ap toChild e)
 
+-- a counter is the ones in its children
+pub counter-children : (f : ℕ → ℕ) (t j i : ℕ) → counter f t j i ≡ childrenOnes f t j (fromChild i) (toChild i)
+unfolding counter summary key fromChild toChild
+counter-children f t j i = go (ltb i 8)
+  where
+    go : (b : Bool) → cond b (childrenOnes f t j 0 (8 * i)) (childrenOnes f t j (8 * ((i - 8) / 8)) (i - 8 + 1))
+        ≡ childrenOnes f t j (cond b 0 (8 * ((i - 8) / 8))) (cond b (8 * i) (i - 8 + 1))
+    go true = refl
+    go false = refl
+
 -- a counter, with the ones before its children, is the ones up to their end
 pub counter-prefix : (f : ℕ → ℕ) (t j i : ℕ) → i < 72 → counter f t j i + prefix f t (64 * j + fromChild i) ≡ prefix f t (64 * j + toChild i)
-unfolding counter
 counter-prefix f t j i h =
     let e : 64 * j + fromChild i + (toChild i - fromChild i) ≡ 64 * j + toChild i = omega (arith, from-to i h .0) in
-    children-ones f t (64 * j + fromChild i) (toChild i - fromChild i) ∙ ap (prefix f t) e
+    ap (λ (x : ℕ). x + prefix f t (64 * j + fromChild i)) (counter-children f t j i)
+    ∙ children-ones f t (64 * j + fromChild i) (toChild i - fromChild i)
+    ∙ ap (prefix f t) e
 
 -- ---- where a counter stands
 -- the first counter of level t

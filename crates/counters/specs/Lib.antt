@@ -3,5 +3,5 @@ pub mod Record
 pub mod Promises
 pub mod Calls
 pub mod Working
-pub mod Laying
+pub mod Building
 pub mod Descent

@@ -1,36 +1,36 @@
 -- The forms of a promise: what a call gives with the lent buffers, and the promise of a call with a free part. Assumes nothing.
 use Prim.Native.Nat.{ℕ, _≤_, _<_}
 use mathlib.Core.Path.{_≡_}
-use mathlib.Core.Bool.{Bool, true, false}
+use mathlib.Core.Bool.{false}
 use mathlib.Core.List.{List}
 use mathlib.Core.Option.{Option, some, none}
 use lib.ListN.{length, getD}
 use Rattle.words.specs.Bits.{bitAt}
 use Rattle.words.specs.Refusals.{numberOf, Told, value, refused}
 use Rattle.words.specs.declared.handle.Handle.{Handle}
-use Rattle.counters.specs.declared.answer.Laid.{Laid}
-use Rattle.counters.specs.declared.answer.Laid.the-variants as laidReply
-use Rattle.counters.specs.declared.answer.Moved.{Moved}
-use Rattle.counters.specs.declared.answer.Moved.the-variants as movedReply
+use Rattle.counters.specs.declared.answer.Created.{Created}
+use Rattle.counters.specs.declared.answer.Created.the-variants as createdReply
+use Rattle.counters.specs.declared.answer.Changed.{Changed}
+use Rattle.counters.specs.declared.answer.Changed.the-variants as changedReply
 use Rattle.counters.specs.Tree.{blocksOf, nodes, height, indexOf, counts}
 
 -- what lay tells: the handle and the number of counters, or the number of a refusal
-pub data LaidTold : Type 0 where
-  laid : Handle → ℕ → LaidTold
-  unlaid : ℕ → LaidTold
+pub data CreatedTold : Type 0 where
+  created : Handle → ℕ → CreatedTold
+  uncreated : ℕ → CreatedTold
 
-abbrev pub laidOf : Laid → LaidTold
-laidOf (laidReply.Done h x) = laid h x
-laidOf (laidReply.Refused r) = unlaid (numberOf r)
+abbrev pub createdOf : Created → CreatedTold
+createdOf (createdReply.Done h x) = created h x
+createdOf (createdReply.Refused r) = uncreated (numberOf r)
 
 -- what a change tells: the handle to go on with and what the call answers, or the handle that it got and the number of a refusal
-pub data MovedTold : Type 0 where
-  done : Handle → ℕ → ℕ → MovedTold
-  kept : Handle → ℕ → MovedTold
+pub data ChangedTold : Type 0 where
+  done : Handle → ℕ → ℕ → ChangedTold
+  kept : Handle → ℕ → ChangedTold
 
-abbrev pub movedOf : Moved → MovedTold
-movedOf (movedReply.Done h x y) = done h x y
-movedOf (movedReply.Refused h r) = kept h (numberOf r)
+abbrev pub changedOf : Changed → ChangedTold
+changedOf (changedReply.Done h x y) = done h x y
+changedOf (changedReply.Refused h r) = kept h (numberOf r)
 
 -- with the words and counters as the call leaves them
 pub record Outcome (A : Type 0) : Type 0 where
@@ -42,7 +42,7 @@ abbrev pub outcome : {A : Type 0} → A → List ℕ → List ℕ → Outcome A
 outcome a ws cs = record { told = a; words = ws; counters = cs }
 
 -- a refusal changes no word and no counter, and gives back the handle that it got
-abbrev pub stays : Handle → List ℕ → List ℕ → ℕ → Outcome MovedTold
+abbrev pub stays : Handle → List ℕ → List ℕ → ℕ → Outcome ChangedTold
 stays h ws cs n = outcome (kept h n) ws cs
 
 -- The promise of a call of which a part is free on a record that does not fit: the refusals of its table exactly; on a fitting record the whole
@@ -66,7 +66,7 @@ pub record PathMoved (n p : ℕ) (cs ds : List ℕ) : Type 0 where
 
 -- add and turn on any record, of stroke p, whose bit becomes b, with the handle g and the answer x: 9 and nothing changed, or no bit but the
 -- stroke's and no counter off the path; the number is at most 45
-pub data Near (h g : Handle) (x p b : ℕ) (ws cs : List ℕ) : Outcome MovedTold → Type 0 where
+pub data Near (h g : Handle) (x p b : ℕ) (ws cs : List ℕ) : Outcome ChangedTold → Type 0 where
   unfit : Near h g x p b ws cs (stays h ws cs 9)
   near : (number : ℕ) (vs ds : List ℕ) → number ≤ 45 → BitPut p b ws vs → PathMoved (blocksOf (h .capacity)) p cs ds
       → Near h g x p b ws cs (outcome (done g x number) vs ds)

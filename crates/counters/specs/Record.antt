@@ -1,5 +1,5 @@
 -- A record: words and counters under a handle. Assumes nothing.
-use Prim.Native.Nat.{ℕ, _+_, _*_, _/_, _≤_, _<_}
+use Prim.Native.Nat.{ℕ, _+_, _*_, _≤_, _<_}
 use mathlib.Core.Path.{_≡_}
 use mathlib.Core.List.{List}
 use lib.ListN.{getD}
@@ -9,16 +9,19 @@ use Rattle.words.specs.Handles.{wordsOf}
 use Rattle.words.specs.declared.handle.Handle.{Handle}
 use Rattle.counters.specs.Tree.{blocksOf, nodes, height, counter, indexOf, levels}
 
+-- every counter of n blocks is as defined for the bits f
+abbrev pub AllFit : (ℕ → ℕ) → ℕ → List ℕ → Type 0
+AllFit f n xs = (t j i : ℕ) → 1 ≤ t → t ≤ height n → j < nodes n t → i < 72 → getD xs (indexOf n t j i) 0 ≡ counter f t j i
+
 -- a record fits when the bits past the length are 0 and every counter is as defined
 pub record Fits (h : Handle) (ws cs : List ℕ) : Type 0 where
   pub clean : PastZero ws (h .length)
-  pub right : (t j i : ℕ) → 1 ≤ t → t ≤ height (blocksOf (h .capacity)) → j < nodes (blocksOf (h .capacity)) t → i < 72
-      → getD cs (indexOf (blocksOf (h .capacity)) t j i) 0 ≡ counter (bitAt ws) t j i
+  pub right : AllFit (bitAt ws) (blocksOf (h .capacity)) cs
 
 -- laid afresh from a strip: the words with its bits at their positions and zeros past its length
-unfoldable pub wordsLaid : ℕ → List ℕ → List ℕ
-wordsLaid c s = listOf (λ k. digits 2 (λ j. cell s (64 * k + j)) 64) (wordsOf c)
+unfoldable pub packedWords : ℕ → List ℕ → List ℕ
+packedWords c s = listOf (λ k. digits 2 (λ j. cell s (64 * k + j)) 64) (wordsOf c)
 
 -- and every counter as defined for them
-unfoldable pub countersLaid : ℕ → List ℕ → List ℕ
-countersLaid c s = levels (cell s) (blocksOf c) (height (blocksOf c))
+unfoldable pub builtCounters : ℕ → List ℕ → List ℕ
+builtCounters c s = levels (cell s) (blocksOf c) (height (blocksOf c))

@@ -1,8 +1,8 @@
 -- The counters over a strip: blocks, nodes, levels, their order, and which counters count a stroke. `f p` is the bit at position p, and n the
 -- number of blocks. Assumes nothing.
 use Prim.Native.Nat.{ℕ, zero, suc, _+_, _-_, _*_, _/_, _%_, _^_}
-use mathlib.Core.Bool.{Bool, true, false, cond, _&&_}
-use mathlib.Core.List.{List, [], _∷_, _++_}
+use mathlib.Core.Bool.{Bool, cond, _&&_}
+use mathlib.Core.List.{List, [], _++_}
 use lib.Dec.{leb, ltb, eqb}
 use lib.ListN.{getD}
 use Rattle.words.specs.Bits.{ones, listOf}
@@ -25,24 +25,35 @@ height n = placeIn 3 (least (λ h. leb 1 h && leb n (64 ^ h)) 4)
 
 -- the bits of a child at level t: a block at level 1, at level t + 1 a node of level t
 unfoldable pub childBits : ℕ → ℕ
-childBits t = 512 * 64 ^ (t - 1)
+childBits t = blockBits * 64 ^ (t - 1)
 
--- the ones in child m of level t; an absent child counts 0, since f is 0 there
+-- the ones in child m of level t; where f is 0 past the blocks, an absent child counts 0
 unfoldable pub childOnes : (ℕ → ℕ) → ℕ → ℕ → ℕ
 childOnes f t m = ones (λ p. f (childBits t * m + p)) (childBits t)
 
--- A node has 64 children and 72 counters: 8 summaries, then 64 keys. Summary g is the ones in the first 8 times g children, key c the ones in
--- children 8 times (c div 8) to c. Counter i of a node is summary i for i below 8, else key i - 8. The children whose ones it gives: from
--- `fromChild i` up to, not including, `toChild i`
+-- the ones in the children from a up to, not including, b of node j of level t
+abbrev pub childrenOnes : (ℕ → ℕ) → ℕ → ℕ → ℕ → ℕ → ℕ
+childrenOnes f t j a b = ones (λ m. childOnes f t (64 * j + a + m)) (b - a)
+
+-- A node has 64 children and 72 counters: 8 summaries, then 64 keys.
+-- summary g of a node: the ones in the first 8 times g children
+unfoldable pub summary : (ℕ → ℕ) → ℕ → ℕ → ℕ → ℕ
+summary f t j g = childrenOnes f t j 0 (8 * g)
+
+-- key c of a node: the ones in children 8 times (c div 8) to c
+unfoldable pub key : (ℕ → ℕ) → ℕ → ℕ → ℕ → ℕ
+key f t j c = childrenOnes f t j (8 * (c / 8)) (c + 1)
+
+-- counter i of node j of level t: summary i for i below 8, else key i - 8
+unfoldable pub counter : (ℕ → ℕ) → ℕ → ℕ → ℕ → ℕ
+counter f t j i = cond (ltb i 8) (summary f t j i) (key f t j (i - 8))
+
+-- the children whose ones counter i gives: from `fromChild i` up to, not including, `toChild i`
 unfoldable pub fromChild : ℕ → ℕ
 fromChild i = cond (ltb i 8) 0 (8 * ((i - 8) / 8))
 
 unfoldable pub toChild : ℕ → ℕ
 toChild i = cond (ltb i 8) (8 * i) (i - 8 + 1)
-
--- counter i of node j of level t
-unfoldable pub counter : (ℕ → ℕ) → ℕ → ℕ → ℕ → ℕ
-counter f t j i = ones (λ m. childOnes f t (64 * j + fromChild i + m)) (toChild i - fromChild i)
 
 -- the nodes of the levels 1 to t
 unfoldable pub total : ℕ → ℕ → ℕ
@@ -69,8 +80,8 @@ unfoldable pub counts : ℕ → ℕ → ℕ → ℕ → Bool
 counts t j i p = leb (64 * j + fromChild i) (childOf t p) && ltb (childOf t p) (64 * j + toChild i)
 
 -- the number of counters that turning stroke p changes: 15 − (c mod 8) − (c div 8), added over levels 1 to h
-unfoldable pub changed : ℕ → ℕ → ℕ
-changed n p = ones (λ s. 15 - slot (s + 1) p % 8 - slot (s + 1) p / 8) (height n)
+unfoldable pub changeCount : ℕ → ℕ → ℕ
+changeCount n p = ones (λ s. 15 - slot (s + 1) p % 8 - slot (s + 1) p / 8) (height n)
 
 -- the counters of the levels t to 1, as defined for f: the higher level first
 unfoldable pub levels : (ℕ → ℕ) → ℕ → ℕ → List ℕ

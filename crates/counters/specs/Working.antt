@@ -33,10 +33,6 @@ nodeOnes xs from count m = cond (ltb m count) ((getD xs (from + 72 * m + 7) 0 + 
 abbrev pub LevelFits : (ℕ → ℕ) → ℕ → List ℕ → ℕ → Type 0
 LevelFits f n xs t = (j i : ℕ) → j < nodes n t → i < 72 → getD xs (indexOf n t j i) 0 ≡ counter f t j i
 
--- every counter is as defined
-abbrev pub AllFit : (ℕ → ℕ) → ℕ → List ℕ → Type 0
-AllFit f n xs = (t j i : ℕ) → 1 ≤ t → t ≤ height n → j < nodes n t → i < 72 → getD xs (indexOf n t j i) 0 ≡ counter f t j i
-
 -- ys is xs with every counter that counts stroke p moved by d
 pub record PathRaised (n p d : ℕ) (xs ys : List ℕ) : Type 0 where
   pub long : length ys ≡ length xs

@@ -4,16 +4,16 @@ ghost use mathlib.Core.Bool.{cond};
 ghost use Prim.Native.Nat.{_-_, _^_};
 ghost use lib.Dec.{eqb};
 ghost use lib.ListN.{length, replicate};
-ghost use Rattle.counters.specs.Promises.{laidOf, movedOf, outcome};
+ghost use Rattle.counters.specs.Promises.{changedOf, createdOf, outcome};
 ghost use Rattle.counters.specs.Calls.{createOutcome, Pushed, Flipped, fillOutcome, truncateOutcome};
-use super::answer::Laid;
-use super::answer::Moved;
+use super::answer::Changed;
+use super::answer::Created;
+use super::build::build_counters;
 use super::check::check_fill;
 use super::check::check_flip;
 use super::check::check_push;
 use super::check::check_record;
 use super::check::check_truncate;
-use super::lay::lay_counters;
 use super::raise::raise_path;
 use words::fill::flip_position;
 use words::fill::put_position;
@@ -35,36 +35,36 @@ fn zero_counters(counters: &mut [u32])
 }
 
 // lay(capacity): zeroes words and counters, and answers the number of counters.
-pub fn create(capacity: usize, words: &mut [u64], counters: &mut [u32]) -> Laid
-    ensures { λ r. ⌜ outcome (laidOf r) (now (words .exit)) (now (counters .exit)) ≡ createOutcome capacity (now (words .entry)) (now (counters .entry)) ⌝ }
+pub fn create(capacity: usize, words: &mut [u64], counters: &mut [u32]) -> Created
+    ensures { λ r. ⌜ outcome (createdOf r) (now (words .exit)) (now (counters .exit)) ≡ createOutcome capacity (now (words .entry)) (now (counters .entry)) ⌝ }
 {
     let h = Handle::new(capacity, 0);
     match check_record(h, words.len(), counters.len()) {
-        Verdict::Refuse(r) => Laid::Refused(r),
+        Verdict::Refuse(r) => Created::Refused(r),
         Verdict::Pass => {
             zero_words(words);
             zero_counters(counters);
-            Laid::Done(h, counters.len() as u64)
+            Created::Done(h, counters.len() as u64)
         }
     }
 }
 
 // add(v): appends v, and answers the position and the number of counters changed.
-pub fn push(h: Handle, words: &mut [u64], counters: &mut [u32], v: u64) -> Moved
-    ensures { λ r. ⌜ Pushed h v (now (words .entry)) (now (counters .entry)) (outcome (movedOf r) (now (words .exit)) (now (counters .exit))) ⌝ }
+pub fn push(h: Handle, words: &mut [u64], counters: &mut [u32], v: u64) -> Changed
+    ensures { λ r. ⌜ Pushed h v (now (words .entry)) (now (counters .entry)) (outcome (changedOf r) (now (words .exit)) (now (counters .exit))) ⌝ }
 {
     match check_push(h, words.len(), counters.len(), v) {
-        Verdict::Refuse(r) => Moved::Refused(h, r),
+        Verdict::Refuse(r) => Changed::Refused(h, r),
         Verdict::Pass => {
             let capacity = h.capacity;
             let p = h.length;
             let next = Handle::new(capacity, p + 1);
             put_position(words, p, v);
             if v == 0 {
-                return Moved::Done(next, p as u64, 0);
+                return Changed::Done(next, p as u64, 0);
             }
             let number = raise_path(counters, capacity / BLOCK_BITS, p, 1);
-            Moved::Done(next, p as u64, number as u64)
+            Changed::Done(next, p as u64, number as u64)
         }
     }
 }
@@ -77,48 +77,55 @@ fn step_to(b: u64) -> u32
 }
 
 // turn(i): replaces a bit by its opposite, and answers the new bit and the number of counters changed.
-pub fn flip(h: Handle, words: &mut [u64], counters: &mut [u32], i: usize) -> Moved
-    ensures { λ r. ⌜ Flipped h i (now (words .entry)) (now (counters .entry)) (outcome (movedOf r) (now (words .exit)) (now (counters .exit))) ⌝ }
+pub fn flip(h: Handle, words: &mut [u64], counters: &mut [u32], i: usize) -> Changed
+    ensures { λ r. ⌜ Flipped h i (now (words .entry)) (now (counters .entry)) (outcome (changedOf r) (now (words .exit)) (now (counters .exit))) ⌝ }
 {
     match check_flip(h, words.len(), counters.len(), i) {
-        Verdict::Refuse(r) => Moved::Refused(h, r),
+        Verdict::Refuse(r) => Changed::Refused(h, r),
         Verdict::Pass => {
             let capacity = h.capacity;
             let b = flip_position(words, i);
             let number = raise_path(counters, capacity / BLOCK_BITS, i, step_to(b));
-            Moved::Done(h, b, number as u64)
+            Changed::Done(h, b, number as u64)
         }
     }
 }
 
 // run(a, b, v): sets the positions a to b - 1 to v, zeroes the bits past the length, lays all counters, and answers the ones held.
-pub fn fill(h: Handle, words: &mut [u64], counters: &mut [u32], a: usize, b: usize, v: u64) -> Moved
-    ensures { λ r. ⌜ outcome (movedOf r) (now (words .exit)) (now (counters .exit)) ≡ fillOutcome h a b v (now (words .entry)) (now (counters .entry)) ⌝ }
+pub fn fill(
+    h: Handle,
+    words: &mut [u64],
+    counters: &mut [u32],
+    a: usize,
+    b: usize,
+    v: u64,
+) -> Changed
+    ensures { λ r. ⌜ outcome (changedOf r) (now (words .exit)) (now (counters .exit)) ≡ fillOutcome h a b v (now (words .entry)) (now (counters .entry)) ⌝ }
 {
     match check_fill(h, words.len(), counters.len(), a, b, v) {
-        Verdict::Refuse(r) => Moved::Refused(h, r),
+        Verdict::Refuse(r) => Changed::Refused(h, r),
         Verdict::Pass => {
             let capacity = h.capacity;
             let n = h.length;
             put_positions(words, a, b, v);
             put_positions(words, n, capacity, 0);
-            let ones = lay_counters(words, counters, capacity / BLOCK_BITS);
-            Moved::Done(h, ones as u64, 0)
+            let ones = build_counters(words, counters, capacity / BLOCK_BITS);
+            Changed::Done(h, ones as u64, 0)
         }
     }
 }
 
 // cut(n): keeps the first n, zeroes the bits past them, lays all counters, and answers the ones held.
-pub fn truncate(h: Handle, words: &mut [u64], counters: &mut [u32], n: usize) -> Moved
-    ensures { λ r. ⌜ outcome (movedOf r) (now (words .exit)) (now (counters .exit)) ≡ truncateOutcome h n (now (words .entry)) (now (counters .entry)) ⌝ }
+pub fn truncate(h: Handle, words: &mut [u64], counters: &mut [u32], n: usize) -> Changed
+    ensures { λ r. ⌜ outcome (changedOf r) (now (words .exit)) (now (counters .exit)) ≡ truncateOutcome h n (now (words .entry)) (now (counters .entry)) ⌝ }
 {
     match check_truncate(h, words.len(), counters.len(), n) {
-        Verdict::Refuse(r) => Moved::Refused(h, r),
+        Verdict::Refuse(r) => Changed::Refused(h, r),
         Verdict::Pass => {
             let capacity = h.capacity;
             put_positions(words, n, capacity, 0);
-            let ones = lay_counters(words, counters, capacity / BLOCK_BITS);
-            Moved::Done(Handle::new(capacity, n), ones as u64, 0)
+            let ones = build_counters(words, counters, capacity / BLOCK_BITS);
+            Changed::Done(Handle::new(capacity, n), ones as u64, 0)
         }
     }
 }

@@ -1,8 +1,8 @@
 // The counter layer.
 pub mod answer;
+pub mod build;
 pub mod change;
 pub mod check;
-pub mod lay;
 pub mod raise;
 pub mod rank;
 pub mod read;

@@ -4,13 +4,17 @@ ghost use Prim.Native.Nat.{ℕ, _+_, _*_, _<_, _≤_};
 ghost use lib.ListN.{length};
 ghost use Rattle.words.specs.Bits.{bitAt, ones};
 ghost use Rattle.counters.specs.Tree.{counterCount};
-ghost use Rattle.counters.specs.Working.{Node, AllFit};
+ghost use Rattle.counters.specs.Record.{AllFit};
+ghost use Rattle.counters.specs.Working.{Node};
+use super::shape::CHILDREN;
+use super::shape::NODE_COUNTERS;
 use super::shape::height_of;
 use super::shape::wide;
 use words::block::block_rank;
+use words::handle::BLOCK_BITS;
 
 // The ones in the first c children of a node: the summary of c's group, and the key before c unless c starts the group.
-pub fn before_child(node: &[u32], c: usize) -> usize
+fn before_child(node: &[u32], c: usize) -> usize
     requires { ⌜ (length (now node) ≡ 72) × (c < 64) ⌝ }
     ensures { λ r. ⌜ (r ≤ 8589934590) × ((B : ℕ → ℕ) (j : ℕ) → Node B j (now (node .entry)) → r + B (64 * j) ≡ B (64 * j + c)) ⌝ }
 {
@@ -21,7 +25,7 @@ pub fn before_child(node: &[u32], c: usize) -> usize
 }
 
 // The ones in the blocks before a block, by the counters: level by level from the lowest.
-pub fn ones_before_block(counters: &[u32], blocks: usize, block: usize) -> usize
+fn ones_before_block(counters: &[u32], blocks: usize, block: usize) -> usize
     requires { ⌜ (length (now counters) ≡ counterCount blocks) × (0 < blocks) × (blocks ≤ 262144) × (block < blocks) ⌝ }
     ensures { λ r. ⌜ (r ≤ 25769803770) × ((f : ℕ → ℕ) → AllFit f blocks (now (counters .entry)) → r ≡ ones f (512 * block)) ⌝ }
 {
@@ -31,12 +35,12 @@ pub fn ones_before_block(counters: &[u32], blocks: usize, block: usize) -> usize
     let mut end = counters.len();
     let mut sum: usize = 0;
     for t in 0..levels {
-        count = (count + 63) / 64;
-        end -= 72 * count;
-        let c = child % 64;
-        child = child / 64;
-        let a = end + 72 * child;
-        let e = a + 72;
+        count = (count + (CHILDREN - 1)) / CHILDREN;
+        end -= NODE_COUNTERS * count;
+        let c = child % CHILDREN;
+        child = child / CHILDREN;
+        let a = end + NODE_COUNTERS * child;
+        let e = a + NODE_COUNTERS;
         sum += before_child(&counters[a..e], c);
     }
     sum
@@ -50,8 +54,8 @@ pub fn ones_before(words: &[u64], counters: &[u32], blocks: usize, i: usize) -> 
     if i == 0 {
         return 0;
     }
-    let b = (i - 1) / 512;
+    let b = (i - 1) / BLOCK_BITS;
     let a = 8 * b;
     let e = a + 8;
-    ones_before_block(counters, blocks, b) + block_rank(&words[a..e], i - 512 * b)
+    ones_before_block(counters, blocks, b) + block_rank(&words[a..e], i - BLOCK_BITS * b)
 }

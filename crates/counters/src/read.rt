@@ -1,31 +1,20 @@
 // The calls that read a record: count, find and check. They write nothing.
-ghost use mathlib.Core.Path.{_≡_};
-ghost use mathlib.Core.Bool.{cond};
-ghost use Prim.Native.Nat.{_-_, _≤_};
-ghost use lib.Dec.{eqb};
 ghost use Rattle.words.specs.Refusals.{toldOf};
 ghost use Rattle.counters.specs.Calls.{Ranked, Selected, Verified};
 use super::check::check_rank;
 use super::check::check_record;
 use super::check::check_select;
 use super::rank::ones_before;
-use super::select::ones_held;
 use super::select::select_position;
+use super::shape::ones_held;
 use super::verify::counters_fit;
+use words::bits::of_value;
 use words::handle::BLOCK_BITS;
 use words::handle::Handle;
 use words::refusal::Answer;
 use words::refusal::Refusal;
 use words::refusal::Verdict;
 use words::scan::first_from;
-
-// The number of v among n bits of which `ones` are ones.
-fn of_value(v: u64, n: usize, ones: usize) -> usize
-    requires { ⌜ ones ≤ n ⌝ }
-    ensures { λ r. ⌜ r ≡ cond (eqb v 1) ones (n - ones) ⌝ }
-{
-    if v == 1 { ones } else { n - ones }
-}
 
 // count(v, i): how many of the first i bits equal v.
 pub fn rank(h: Handle, words: &[u64], counters: &[u32], v: u64, i: usize) -> Answer
@@ -53,6 +42,9 @@ pub fn select(h: Handle, words: &[u64], counters: &[u32], v: u64, k: usize) -> A
         Verdict::Pass => {
             let capacity = h.capacity;
             let n = h.length;
+            if n <= k {
+                return Answer::Refused(Refusal::NotFound);
+            }
             let blocks = capacity / BLOCK_BITS;
             let ones = ones_held(counters, blocks);
             if n < ones {

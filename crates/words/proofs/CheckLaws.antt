@@ -104,13 +104,13 @@ checked h words counted p =
 pub checked-below : (h : Handle) (words : ℕ) (counted : Bool) (i : ℕ) → judge (belowTable h words counted i) ≡ none
     → Checked h words counted × (i < h .length)
 checked-below h words counted i p =
-    let b = passed-both (stripLines h words counted) (belowLine h i ∷ []) p in
-    (checked h words counted (b .0), leb-false _ _ (passes (belowLine h i ∷ []) (b .1) .0))
+    let b = passed-both (stripLines h words counted) (belowLine (h .length) i ∷ []) p in
+    (checked h words counted (b .0), leb-false _ _ (passes (belowLine (h .length) i ∷ []) (b .1) .0))
 
 -- a value, and a position not above the length
 pub checked-value : (h : Handle) (words : ℕ) (counted : Bool) (v i : ℕ) → judge (valueTable h words counted v i) ≡ none
     → Checked h words counted × (v ≤ 1) × (i ≤ h .length)
 checked-value h words counted v i p =
-    let b = passed-both (stripLines h words counted) (valueLine v ∷ withinLine h i ∷ []) p in
-    let l = passes (valueLine v ∷ withinLine h i ∷ []) (b .1) in
+    let b = passed-both (stripLines h words counted) (valueLine v ∷ withinLine (h .length) i ∷ []) p in
+    let l = passes (valueLine v ∷ withinLine (h .length) i ∷ []) (b .1) in
     (checked h words counted (b .0), ltb-false _ _ (l .0), ltb-false _ _ (l .1 .0))

@@ -8,7 +8,7 @@ use native.Mathlib.Omega.{arith}
 use borrow.Author.Tests.{leb-true, leb-false}
 use lib.Dec.{leb, lit<, lit≤}
 use lib.Arith.{digits-mod}
-use lib.Pow.{pow-pos, shr-mod, high}
+use lib.Pow.{pow-pos, shr-mod}
 use lib.Bits.{bitAnd, and-high}
 use Rattle.words.specs.Bits.{bit, digits, ones}
 use Rattle.words.specs.Words.{byteOf, onesInByte, Prefixes}

@@ -1,5 +1,5 @@
 -- The laws of `least` and `greatest`, and of rank and select over any cells: select is unique, exists exactly where k is below the number
--- of v, and rank and select undo each other. Assumes nothing.
+-- of v, and rank and select undo each other; and of the number of v by the ones. Assumes nothing.
 use mathlib.Core.Path.{_≡_, refl, sym, ap, ap₂, _∙_, subst}
 use mathlib.Core.Bool.{Bool, true, false, cond, _&&_}
 use mathlib.Core.Logic.{_⊎_, inl, inr}
@@ -9,13 +9,13 @@ use native.Mathlib.Nat.{le-refl, lt-suc-self, not-suc-le-zero}
 use native.Mathlib.Omega.{arith}
 use native.Mathlib.Decide.{ℕ-discrete}
 use lib.Dec.{eqb}
-use borrow.Author.Tests.{eqb-true, eq-eqb, le-leb, lt-leb}
+use borrow.Author.Tests.{eqb-true, eq-eqb, ne-eqb, le-leb, lt-leb}
 use Rattle.words.specs.Bits.{ones}
 use Rattle.words.specs.Strip.{orElse, least, greatest, holds, rankOf, selectOf}
+use Rattle.words.specs.Working.{ofValue, atMost}
 use Rattle.words.specs.Words.{placeIn}
-use Rattle.words.specs.Working.{atMost}
 use Rattle.words.proofs.BoolLaws.{bool-or, true-false, and-intro, and-first, and-second}
-use Rattle.words.proofs.Sums.{lt-or, ones-suc, ones-zero, ones-ext, rank-one, part-ones}
+use Rattle.words.proofs.Sums.{lt-or, ones-suc, ones-zero, ones-ext, ones-le, rank-one, part-ones}
 use Rattle.words.proofs.WordLaws.{holds-yes, holds-no, holds-le, holds-zero, holds-one}
 
 -- ---- the smallest position that passes a test
@@ -177,6 +177,13 @@ select-none f n v k h = go (selectOf f n v k) refl
     go (some p) e = absurd (omega (arith, select-below f n v k p e))
     go none e = refl
 
+-- a position that is found among the first n cells is found among more
+pub select-longer : (f : ℕ → ℕ) (n c v k : ℕ) → n ≤ c → k < rankOf f v n → selectOf f c v k ≡ selectOf f n v k
+select-longer f n c v k h l =
+    let w = select-exists f n v k l in
+    let p = select-place f n v k (w .0) (w .1) in
+    select-at f c v k (w .0) (record { below = omega (arith, p .below); held = p .held; rank = p .rank }) ∙ sym (w .1)
+
 -- count undoes find, and find undoes count
 pub rank-select : (f : ℕ → ℕ) (n v k p : ℕ) → selectOf f n v k ≡ some p → rankOf f v p ≡ k
 rank-select f n v k p e = select-place f n v k p e .rank
@@ -196,6 +203,14 @@ placeIn-place f n v k h =
     let w = place-exists f n v k h in
     subst (λ (p : ℕ). Place f n v k p) (sym (placeIn-at f n v k (w .0) (w .1))) (w .1)
 
+-- an answer is a position, or the end
+pub select-le : (f : ℕ → ℕ) (n v k : ℕ) → placeIn n (selectOf f n v k) ≤ n
+select-le f n v k = go (lt-or k (rankOf f v n))
+  where
+    go : (k < rankOf f v n) ⊎ (rankOf f v n ≤ k) → placeIn n (selectOf f n v k) ≤ n
+    go (inl l) = omega (arith, placeIn-place f n v k l .below)
+    go (inr l) = omega (arith, placeIn-none f n v k l)
+
 -- ---- cells g that are a part of f, w of them from a on
 pub rank-ext : (f g : ℕ → ℕ) (v n : ℕ) → ((p : ℕ) → p < n → f p ≡ g p) → rankOf f v n ≡ rankOf g v n
 rank-ext f g v n h = ones-ext (holds f v) (holds g v) n (λ p l. ap (λ (x : ℕ). cond (eqb x v) 1 0) (h p l))
@@ -214,6 +229,10 @@ place-in f g a w n v k under e part top eu l h =
       held = sym (part e below) ∙ h .held;
       rank = omega (arith, rank-part f g a w v e part (omega arith), h .rank);
     }
+
+-- no more v than positions
+pub rank-le : (f : ℕ → ℕ) (v n : ℕ) → rankOf f v n ≤ n
+rank-le f v n = ones-le (holds f v) n (holds-le f v)
 
 -- of bits, the rank of 1 is the ones
 pub rank-ones : (f : ℕ → ℕ) (n : ℕ) → ((p : ℕ) → f p ≤ 1) → rankOf f 1 n ≡ ones f n
@@ -249,6 +268,36 @@ part-select f g a w n v k left r part top e l er =
     let p : Place g w v left r = subst (λ (q : ℕ). Place g w v left q) (sym er) (placeIn-place g w v left l) in
     let q : Place f n v k (a + r) = place-in f g a w n v k (rankOf f v a) r part top refl (omega arith) (subst (λ (x : ℕ). Place g w v x r) ek p) in
     (p .below, sym (placeIn-at f n v k (a + r) q))
+
+-- ---- the number of v among n bits of which x are ones
+
+-- for v = 1
+pub value-one : (v n x : ℕ) → v ≡ 1 → ofValue v n x ≡ x
+value-one v n x e = simp (eq-eqb v 1 e)
+
+-- for another v
+pub value-zero : (v n x : ℕ) → (v ≡ 1 → ⊥) → ofValue v n x ≡ n - x
+value-zero v n x d = simp (ne-eqb v 1 d)
+
+-- where x is their ones, that is count(v, n)
+pub value-rank : (f : ℕ → ℕ) (v n : ℕ) → ((p : ℕ) → f p ≤ 1) → v ≤ 1 → ofValue v n (ones f n) ≡ rankOf f v n
+value-rank f v n small h = go (lt-or v 1)
+  where
+    go : (v < 1) ⊎ (1 ≤ v) → ofValue v n (ones f n) ≡ rankOf f v n
+    go (inl l) =
+        let z : 0 ≡ v = omega arith in
+        value-zero v n (ones f n) (λ e. omega arith) ∙ omega (arith, rank-ones f n small, rank-both f n small) ∙ ap (λ (w : ℕ). rankOf f w n) z
+    go (inr l) =
+        let o : 1 ≡ v = omega arith in
+        value-one v n (ones f n) (sym o) ∙ sym (rank-ones f n small) ∙ ap (λ (w : ℕ). rankOf f w n) o
+
+-- at most as many as there are bits
+pub value-le : (v n x : ℕ) → x ≤ n → ofValue v n x ≤ n
+value-le v n x h = go (eqb v 1)
+  where
+    go : (b : Bool) → cond b x (n - x) ≤ n
+    go true = h
+    go false = omega arith
 
 -- ---- of rising numbers, how many are at most k: those before the first that is above it
 pub record Reached (P : ℕ → ℕ) (k n c : ℕ) : Type 0 where

@@ -1,4 +1,4 @@
--- The laws of `ones f n`, a sum over the positions below n, and of `listOf`. Assumes nothing.
+-- The laws of `ones f n`, a sum over the positions below n, of `listOf`, and of lists by their elements. Assumes nothing.
 use mathlib.Core.Path.{_≡_, refl, sym, ap, ap₂, _∙_}
 use mathlib.Core.Logic.{_⊎_, inl, inr}
 use mathlib.Core.List.{List}
@@ -7,8 +7,8 @@ use native.Mathlib.Nat.{add-zero, add-suc, mul-zero, suc-mul, lt-suc-self, add-s
 use native.Mathlib.Numerals.{add-one}
 use native.Mathlib.Decide.{decLt}
 use native.Mathlib.Omega.{arith}
-use lib.ListN.{length, getD, take, drop}
-use lib.Seq.{getD-take, getD-drop, ext-getD}
+use lib.ListN.{length, getD, set, take, drop}
+use lib.Seq.{getD-take, getD-drop, getD-set-same, getD-set-other, ext-getD}
 use Rattle.words.specs.Bits.{ones, listOf}
 
 -- below, or not
@@ -130,3 +130,14 @@ listOf-is f n xs e each =
 -- element i of the n elements from a on
 pub part-at : {A : Type 0} (xs : List A) (a n : ℕ) (z : A) (i : ℕ) → i < n → getD (take n (drop a xs)) i z ≡ getD xs (a + i) z
 part-at xs a n z i h = getD-take n (drop a xs) i z h ∙ getD-drop a xs i z
+
+-- the elements below c, and a store at c
+pub set-more : (h : ℕ → ℕ) (xs : List ℕ) (c v : ℕ) → c < length xs → ((d : ℕ) → d < c → getD xs d 0 ≡ h d) → v ≡ h c
+    → (d : ℕ) → d < c + 1 → getD (set xs c v) d 0 ≡ h d
+set-more h xs c v l low e d q = go (lt-or d c)
+  where
+    go : (d < c) ⊎ (c ≤ d) → getD (set xs c v) d 0 ≡ h d
+    go (inl m) = getD-set-other xs c d v 0 (λ u. omega arith) ∙ low d m
+    go (inr m) =
+        let s : d ≡ c = omega arith in
+        ap (λ (k : ℕ). getD (set xs c v) k 0) s ∙ getD-set-same xs c v 0 l ∙ e ∙ ap h (sym s)

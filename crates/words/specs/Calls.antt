@@ -1,8 +1,7 @@
 -- The lines that calls share, and the calls on words alone: their refusals in order, and their answers. Assumes nothing.
 use Prim.Native.Nat.{ℕ}
-use mathlib.Core.Bool.{Bool, true, false}
+use mathlib.Core.Bool.{Bool}
 use mathlib.Core.List.{List, [], _∷_, _++_}
-use mathlib.Core.Option.{Option, some, none}
 use lib.ListN.{length}
 use lib.Dec.{leb, ltb}
 use Rattle.words.specs.declared.handle.Handle.{Handle}
@@ -14,21 +13,21 @@ use Rattle.words.specs.Strip.{cell, badValue, stripOf, successor, predec
 abbrev pub valueLine : ℕ → Line
 valueLine v = badValue v ⇒ 8
 
--- 4 i not below the length
-abbrev pub belowLine : Handle → ℕ → Line
-belowLine h i = leb (h .length) i ⇒ 4
+-- 4 i not below the length n
+abbrev pub belowLine : ℕ → ℕ → Line
+belowLine n i = leb n i ⇒ 4
 
--- 4 i above the length
-abbrev pub withinLine : Handle → ℕ → Line
-withinLine h i = ltb (h .length) i ⇒ 4
+-- 4 i above the length n
+abbrev pub withinLine : ℕ → ℕ → Line
+withinLine n i = ltb n i ⇒ 4
 
 -- a call that takes a position below the length: 1, 2, 3; 4
 abbrev pub belowTable : Handle → ℕ → Bool → ℕ → List Line
-belowTable h words counted i = stripLines h words counted ++ (belowLine h i ∷ [])
+belowTable h words counted i = stripLines h words counted ++ (belowLine (h .length) i ∷ [])
 
 -- a call that takes a value and a position not above the length: 1, 2, 3; 8; 4
 abbrev pub valueTable : Handle → ℕ → Bool → ℕ → ℕ → List Line
-valueTable h words counted v i = stripLines h words counted ++ (valueLine v ∷ withinLine h i ∷ [])
+valueTable h words counted v i = stripLines h words counted ++ (valueLine v ∷ withinLine (h .length) i ∷ [])
 
 -- look(i): 1, 2; 4; the bit
 abbrev pub getTold : Handle → List ℕ → ℕ → Told

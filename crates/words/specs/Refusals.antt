@@ -1,6 +1,6 @@
--- The refusals, their numbers, ordered tables of them, and what a reading call tells. Assumes nothing.
+-- The refusals, their numbers, ordered tables of them, and what a call tells that changes no record. Assumes nothing.
 use Prim.Native.Nat.{ℕ, _+_, _^_}
-use mathlib.Core.Bool.{Bool, true, false, cond}
+use mathlib.Core.Bool.{Bool, cond}
 use mathlib.Core.List.{List, [], _∷_}
 use mathlib.Core.Option.{Option, some, none}
 use Rattle.words.specs.declared.refusal.Refusal.{Refusal}
@@ -52,7 +52,7 @@ abbrev pub unless : {A : Type 0} → Option ℕ → (ℕ → A) → A → A
 unless none refuse late = late
 unless (some n) refuse late = refuse n
 
--- what a reading call tells: a value, or the number of a refusal
+-- what a call tells that changes no record: a value, or the number of a refusal
 pub data Told : Type 0 where
   value : ℕ → Told
   refused : ℕ → Told

@@ -1,8 +1,8 @@
-// Bits of one word.
+// Bits of one word, and the number of a value among bits.
 ghost use mathlib.Core.Path.{_≡_};
 ghost use Prim.Native.Nat.{_+_, _-_, _^_, _<_, _≤_};
 ghost use Rattle.words.specs.Bits.{bit, ones};
-ghost use Rattle.words.specs.Working.{Written, Matched};
+ghost use Rattle.words.specs.Working.{ofValue, Written, Matched};
 
 // Bit i of a word.
 pub fn bit_of(x: u64, i: usize) -> u64
@@ -69,4 +69,17 @@ pub fn matches(x: u64, v: u64) -> u64
     ensures { λ r. ⌜ Matched x v r ⌝ }
 {
     if v == 1 { x } else { !x }
+}
+
+// The number of v among n bits of which `ones` are ones; 0 where there are more ones than bits.
+pub fn of_value(v: u64, n: usize, ones: usize) -> usize
+    ensures { λ r. ⌜ r ≡ ofValue v n ones ⌝ }
+{
+    if v == 1 {
+        return ones;
+    }
+    if n < ones {
+        return 0;
+    }
+    n - ones
 }

@@ -1,4 +1,4 @@
-// Refusals, the verdict of a call's checks, and the answer of a reading call.
+// Refusals, the verdict of a call's checks, and the answer of a call that changes no record.
 ghost use mathlib.Core.Path.{_≡_};
 ghost use Prim.Native.Nat.{_<_};
 ghost use Rattle.words.specs.Refusals.{numberOf, toldOf, coded as codedOf};
@@ -23,7 +23,7 @@ pub enum Refusal {
     BadValue,
     // a record that does not fit
     Unfit,
-    // a chain that is not sound
+    // a chain that is not sound; a part that is not one record of the length held
     Unsound,
     // a label out of range
     BadLabel,
@@ -43,7 +43,7 @@ pub enum Verdict {
     Refuse(Refusal),
 }
 
-// What a reading call answers.
+// What a call answers that changes no record: a value, or its refusal.
 pub enum Answer {
     Value(u64),
     Refused(Refusal),

@@ -1,16 +1,15 @@
 -- `counters::change::create` meets its contract. Assumes nothing.
-use mathlib.Core.Path.{_≡_, sym, ap, ap₂, _∙_}
+use mathlib.Core.Path.{_≡_, ap, ap₂, _∙_}
 use mathlib.Core.List.{List}
-use mathlib.Core.Option.{Option, none}
 use Prim.Native.Nat.{ℕ}
 use borrow.Author.Needs.{needs}
-use lib.ListN.{length, replicate, length-replicate}
+use lib.ListN.{length, length-replicate}
 use Rattle.words.specs.declared.handle.Handle.{Handle}
 use Rattle.words.specs.Refusals.{judge, verdictOf}
 use Rattle.words.specs.Handles.{handle}
 use Rattle.words.proofs.CheckLaws.{judged-pass, unless-refused, unless-passed}
 use Rattle.counters.specs.Tree.{blocksOf, counterCount}
-use Rattle.counters.specs.Promises.{laid, unlaid, outcome}
+use Rattle.counters.specs.Promises.{created, uncreated, outcome}
 use Rattle.counters.specs.Calls.{checks}
 use Rattle.counters.proofs.PromiseLaws.{sizes}
 use Rattle.counters.proofs.change.create.Statement.{statement}
@@ -48,7 +47,7 @@ returns c =
     let k = c .before .before .before in
     let a = k .before .before .before .before .args in
     unless-refused (checks (handle (a .capacity) 0) (length (a .words .now)) (length (a .counters .now))) (k .check-record .result) (c .before .r .given .0 .0)
-    (λ n. outcome (unlaid n) (a .words .now) (a .counters .now)) _ (judged k) (c .before .r .given .1)
+    (λ n. outcome (uncreated n) (a .words .now) (a .counters .now)) _ (judged k) (c .before .r .given .1)
 
 same-length : tie.Need-same-length
 same-length c = search needs
@@ -67,9 +66,9 @@ returns-2 c =
     let z = sizes (handle (a .capacity) 0) (a .words .now) (a .counters .now) (judged-pass t (k .check-record .result) (judged k) (e .enum-told .given .1)) in
     let count : length (cs .last .0) ≡ counterCount (blocksOf (a .capacity)) =
     ap length (cs .ensures) ∙ length-replicate (length (a .counters .now)) 0 ∙ z .counters in
-    ap₂ (λ (g : Handle) (n : ℕ). outcome (laid g n) (ws .last .0) (cs .last .0)) (k .before .new .ensures) count
-    ∙ ap₂ (λ (x y : List ℕ). outcome (laid (handle (a .capacity) 0) (counterCount (blocksOf (a .capacity)))) x y) (ws .ensures) (cs .ensures)
-    ∙ unless-passed t (k .check-record .result) (λ n. outcome (unlaid n) (a .words .now) (a .counters .now)) _ (judged k) (e .enum-told .given .1)
+    ap₂ (λ (g : Handle) (n : ℕ). outcome (created g n) (ws .last .0) (cs .last .0)) (k .before .new .ensures) count
+    ∙ ap₂ (λ (x y : List ℕ). outcome (created (handle (a .capacity) 0) (counterCount (blocksOf (a .capacity)))) x y) (ws .ensures) (cs .ensures)
+    ∙ unless-passed t (k .check-record .result) (λ n. outcome (uncreated n) (a .words .now) (a .counters .now)) _ (judged k) (e .enum-told .given .1)
 
 pub create-spec : {M : Type 1} → statement M
 create-spec =

@@ -42,13 +42,13 @@ known : (c : tie.After-enum-told)
     (c .before .before .before .before .before .args .counters .now)
 known c =
     let a = c .before .before .before .before .before .args in
-    sizes-of (a .h) (a .words .now) (a .counters .now) (valueLine (a .v) ∷ (ltb (a .b) (a .a) ⇒ 5) ∷ withinLine (a .h) (a .b) ∷ []) (passed c)
+    sizes-of (a .h) (a .words .now) (a .counters .now) (valueLine (a .v) ∷ (ltb (a .b) (a .a) ⇒ 5) ∷ withinLine (a .h .length) (a .b) ∷ []) (passed c)
 
 -- and its own lines
-own : (c : tie.After-enum-told) → Passes (valueLine (c .before .before .before .before .before .args .v) ∷ (ltb (c .before .before .before .before .before .args .b) (c .before .before .before .before .before .args .a) ⇒ 5) ∷ withinLine (c .before .before .before .before .before .args .h) (c .before .before .before .before .before .args .b) ∷ [])
+own : (c : tie.After-enum-told) → Passes (valueLine (c .before .before .before .before .before .args .v) ∷ (ltb (c .before .before .before .before .before .args .b) (c .before .before .before .before .before .args .a) ⇒ 5) ∷ withinLine (c .before .before .before .before .before .args .h .length) (c .before .before .before .before .before .args .b) ∷ [])
 own c =
     let a = c .before .before .before .before .before .args in
-    lines-of (a .h) (a .words .now) (a .counters .now) (valueLine (a .v) ∷ (ltb (a .b) (a .a) ⇒ 5) ∷ withinLine (a .h) (a .b) ∷ []) (passed c)
+    lines-of (a .h) (a .words .now) (a .counters .now) (valueLine (a .v) ∷ (ltb (a .b) (a .a) ⇒ 5) ∷ withinLine (a .h .length) (a .b) ∷ []) (passed c)
 
 -- v is 0 or 1, and a ≤ b ≤ length
 fine : (c : tie.After-enum-told) → c .before .before .before .before .before .args .v ≤ 1
@@ -71,8 +71,8 @@ put-positions-requires-2 c κs =
     let put = c .before .before .before .put-positions .ensures in
     (z .long, omega (arith, put .long, z .words, z .step), omega arith, omega (arith, put .long, z .words, z .most))
 
-lay-counters-requires : tie.Need-lay-counters-requires
-lay-counters-requires c κs =
+build-counters-requires : tie.Need-build-counters-requires
+build-counters-requires c κs =
     let z = known (c .before .before .before .before .before .before .before .before .before .before) in
     let put = c .before .before .before .before .before .before .before .before .put-positions .ensures in
     let wipe = c .before .before .before .before .put-positions2 .ensures in
@@ -96,12 +96,12 @@ returns-2 c =
     let a = e .before .before .before .before .before .args in
     let put = c .before .before .before .before .before .before .before .before .before .before .before .put-positions in
     let wipe = c .before .before .before .before .before .before .before .put-positions2 in
-    let laid = c .before .before .lay-counters in
+    let built = c .before .before .build-counters in
     let z = known e in
     let whole : 512 * (a .h .capacity / 512) ≡ a .h .capacity = omega (arith, z .step) in
-    fill-done (a .h) (a .words .now) (put .last .0) (wipe .last .0) (a .counters .now) (laid .last .1 .0) (a .a) (a .b) (a .v) (laid .result) z
-    (put .ensures) (wipe .ensures) (λ k. c .before .before .before .before .before .slice-known4 .given k .fits) (laid .kept .1 .0)
-    (laid .ensures .0 ∙ ap (ones (bitAt (wipe .last .0))) whole) (laid .ensures .1)
+    fill-done (a .h) (a .words .now) (put .last .0) (wipe .last .0) (a .counters .now) (built .last .1 .0) (a .a) (a .b) (a .v) (built .result) z
+    (put .ensures) (wipe .ensures) (λ k. c .before .before .before .before .before .slice-known4 .given k .fits) (built .kept .1 .0)
+    (built .ensures .0 ∙ ap (ones (bitAt (wipe .last .0))) whole) (built .ensures .1)
     ∙ unless-passed (fillTable (a .h) (length (a .words .now)) (length (a .counters .now)) (a .a) (a .b) (a .v)) (e .before .before .check-fill .result)
     (stays (a .h) (a .words .now) (a .counters .now)) _ (e .before .before .check-fill .ensures) (e .enum-told .given .1)
 
@@ -114,7 +114,7 @@ fill-spec =
     enum-told
     put-positions-requires
     put-positions-requires-2
-    lay-counters-requires
+    build-counters-requires
     returns
     same-length
     same-length-2

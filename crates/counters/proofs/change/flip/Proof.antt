@@ -43,12 +43,12 @@ known : (c : tie.After-enum-told)
     (c .before .before .before .before .before .args .counters .now)
 known c =
     let a = c .before .before .before .before .before .args in
-    sizes-of (a .h) (a .words .now) (a .counters .now) (belowLine (a .h) (a .i) ∷ []) (passed c)
+    sizes-of (a .h) (a .words .now) (a .counters .now) (belowLine (a .h .length) (a .i) ∷ []) (passed c)
 
 below : (c : tie.After-enum-told) → c .before .before .before .before .before .args .i < c .before .before .before .before .before .args .h .length
 below c =
     let a = c .before .before .before .before .before .args in
-    leb-false _ _ (lines-of (a .h) (a .words .now) (a .counters .now) (belowLine (a .h) (a .i) ∷ []) (passed c) .0)
+    leb-false _ _ (lines-of (a .h) (a .words .now) (a .counters .now) (belowLine (a .h .length) (a .i) ∷ []) (passed c) .0)
 
 flip-position-requires : tie.Need-flip-position-requires
 flip-position-requires c κs = let z = known (c .before) in omega (arith, below (c .before), z .words, z .step, z .long)

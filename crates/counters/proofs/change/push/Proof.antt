@@ -12,7 +12,7 @@ use Rattle.words.specs.declared.handle.Handle.{Handle}
 use Rattle.words.specs.Refusals.{_⇒_, judge}
 use Rattle.words.specs.Calls.{valueLine}
 use Rattle.words.proofs.CheckLaws.{judged-pass, Passes}
-use Rattle.counters.specs.Promises.{done, Outcome, MovedTold, outcome, stays}
+use Rattle.counters.specs.Promises.{done, Outcome, ChangedTold, outcome, stays}
 use Rattle.counters.specs.Calls.{pushTable, Pushed}
 use Rattle.counters.proofs.PromiseLaws.{promise-refused, Sizes, sizes-of, lines-of, push-zero, push-one}
 use Rattle.counters.proofs.change.push.Statement.{statement}
@@ -71,7 +71,7 @@ put-position-requires c κs =
     (omega (arith, room e, z .words, z .step), fine e)
 
 -- the answer with the next handle, as the definition writes it
-next : (c : tie.After-new) (number : ℕ) → (o : Outcome MovedTold → Type 0) → (vs ds : mathlib.Core.List.List ℕ)
+next : (c : tie.After-new) (number : ℕ) → (o : Outcome ChangedTold → Type 0) → (vs ds : mathlib.Core.List.List ℕ)
     → o (outcome (done (Rattle.words.specs.Handles.handle (c .before .before .before .before .before .before .args .h .capacity)
     (c .before .before .before .before .before .before .args .h .length + 1)) (c .before .before .before .before .before .before .args .h .length) number) vs ds)
     → o (outcome (done (c .new .result) (c .before .before .before .before .before .before .args .h .length) number) vs ds)

@@ -42,13 +42,13 @@ known : (c : tie.After-enum-told)
     (c .before .before .before .before .before .args .counters .now)
 known c =
     let a = c .before .before .before .before .before .args in
-    sizes-of (a .h) (a .words .now) (a .counters .now) (withinLine (a .h) (a .n) ∷ []) (passed c)
+    sizes-of (a .h) (a .words .now) (a .counters .now) (withinLine (a .h .length) (a .n) ∷ []) (passed c)
 
 -- and its own lines
-own : (c : tie.After-enum-told) → Passes (withinLine (c .before .before .before .before .before .args .h) (c .before .before .before .before .before .args .n) ∷ [])
+own : (c : tie.After-enum-told) → Passes (withinLine (c .before .before .before .before .before .args .h .length) (c .before .before .before .before .before .args .n) ∷ [])
 own c =
     let a = c .before .before .before .before .before .args in
-    lines-of (a .h) (a .words .now) (a .counters .now) (withinLine (a .h) (a .n) ∷ []) (passed c)
+    lines-of (a .h) (a .words .now) (a .counters .now) (withinLine (a .h .length) (a .n) ∷ []) (passed c)
 
 within : (c : tie.After-enum-told) → c .before .before .before .before .before .args .n ≤ c .before .before .before .before .before .args .h .length
 within c = ltb-false (c .before .before .before .before .before .args .h .length) (c .before .before .before .before .before .args .n) (own c .0)
@@ -58,8 +58,8 @@ put-positions-requires c κs =
     let z = known (c .before) in
     (omega (arith, within (c .before), z .long), omega (arith, z .words, z .step), omega arith, omega (arith, z .words, z .most))
 
-lay-counters-requires : tie.Need-lay-counters-requires
-lay-counters-requires c κs =
+build-counters-requires : tie.Need-build-counters-requires
+build-counters-requires c κs =
     let z = known (c .before .before .before .before .before .before) in
     let wipe = c .before .before .before .before .put-positions .ensures in
     (omega (arith, wipe .long, z .words, z .step), z .counters, omega (arith, z .least), omega (arith, z .most))
@@ -85,13 +85,13 @@ returns-2 c =
     let e = l .before .before .before .before .before .before .before .before .before in
     let a = e .before .before .before .before .before .args in
     let wipe = l .before .before .before .before .before .before .before .put-positions in
-    let laid = l .before .before .lay-counters in
+    let built = l .before .before .build-counters in
     let z = known e in
     let whole : 512 * (a .h .capacity / 512) ≡ a .h .capacity = omega (arith, z .step) in
-    ap (λ (g : Handle). outcome (done g (laid .result) 0) (wipe .last .0) (laid .last .1 .0)) (c .new .ensures)
-    ∙ truncate-done (a .h) (a .words .now) (wipe .last .0) (a .counters .now) (laid .last .1 .0) (a .n) (laid .result) z (within e)
-    (wipe .ensures) (λ k. l .before .before .before .before .before .slice-known3 .given k .fits) (laid .kept .1 .0)
-    (laid .ensures .0 ∙ ap (ones (bitAt (wipe .last .0))) whole) (laid .ensures .1)
+    ap (λ (g : Handle). outcome (done g (built .result) 0) (wipe .last .0) (built .last .1 .0)) (c .new .ensures)
+    ∙ truncate-done (a .h) (a .words .now) (wipe .last .0) (a .counters .now) (built .last .1 .0) (a .n) (built .result) z (within e)
+    (wipe .ensures) (λ k. l .before .before .before .before .before .slice-known3 .given k .fits) (built .kept .1 .0)
+    (built .ensures .0 ∙ ap (ones (bitAt (wipe .last .0))) whole) (built .ensures .1)
     ∙ unless-passed (truncateTable (a .h) (length (a .words .now)) (length (a .counters .now)) (a .n)) (e .before .before .check-truncate .result)
     (stays (a .h) (a .words .now) (a .counters .now)) _ (e .before .before .check-truncate .ensures) (e .enum-told .given .1)
 
@@ -103,7 +103,7 @@ truncate-spec =
     enum-known-r
     enum-told
     put-positions-requires
-    lay-counters-requires
+    build-counters-requires
     new-requires
     returns
     same-length

@@ -23,33 +23,33 @@ enum-told-2 c = search needs
 returns : tie.Need-returns
 returns c =
     let a = c .before .before .before .args in
-    refused-first (checks (a .h) (a .words) (a .counters)) (valueLine (a .v) ∷ (ltb (a .b) (a .a) ⇒ 5) ∷ withinLine (a .h) (a .b) ∷ []) _ _ (c .before .before .check-record .ensures) (c .enum-told2 .given .1)
+    refused-first (checks (a .h) (a .words) (a .counters)) (valueLine (a .v) ∷ (ltb (a .b) (a .a) ⇒ 5) ∷ withinLine (a .h .length) (a .b) ∷ []) _ _ (c .before .before .check-record .ensures) (c .enum-told2 .given .1)
 
 returns-2 : tie.Need-returns-2
 returns-2 c =
     let a = c .before .before .before .before .args in
-    sym (passed-first (checks (a .h) (a .words) (a .counters)) (valueLine (a .v) ∷ (ltb (a .b) (a .a) ⇒ 5) ∷ withinLine (a .h) (a .b) ∷ []) _
+    sym (passed-first (checks (a .h) (a .words) (a .counters)) (valueLine (a .v) ∷ (ltb (a .b) (a .a) ⇒ 5) ∷ withinLine (a .h .length) (a .b) ∷ []) _
     (c .before .before .before .check-record .ensures) (c .before .enum-told .given .1)
     ∙ simp (lt-ltb _ _ (c .if1 .taken)))
 
 returns-3 : tie.Need-returns-3
 returns-3 c =
     let a = c .before .before .before .before .before .args in
-    sym (passed-first (checks (a .h) (a .words) (a .counters)) (valueLine (a .v) ∷ (ltb (a .b) (a .a) ⇒ 5) ∷ withinLine (a .h) (a .b) ∷ []) _
+    sym (passed-first (checks (a .h) (a .words) (a .counters)) (valueLine (a .v) ∷ (ltb (a .b) (a .a) ⇒ 5) ∷ withinLine (a .h .length) (a .b) ∷ []) _
     (c .before .before .before .before .check-record .ensures) (c .before .before .enum-told .given .1)
     ∙ simp (le-ltb _ _ (c .before .if1 .left), lt-ltb _ _ (c .if2 .taken)))
 
 returns-4 : tie.Need-returns-4
 returns-4 c =
     let a = c .before .before .before .before .before .before .before .args in
-    sym (passed-first (checks (a .h) (a .words) (a .counters)) (valueLine (a .v) ∷ (ltb (a .b) (a .a) ⇒ 5) ∷ withinLine (a .h) (a .b) ∷ []) _
+    sym (passed-first (checks (a .h) (a .words) (a .counters)) (valueLine (a .v) ∷ (ltb (a .b) (a .a) ⇒ 5) ∷ withinLine (a .h .length) (a .b) ∷ []) _
     (c .before .before .before .before .before .before .check-record .ensures) (c .before .before .before .before .enum-told .given .1)
     ∙ simp (le-ltb _ _ (c .before .before .before .if1 .left), le-ltb _ _ (c .before .before .if2 .left), lt-ltb _ _ (c .if3 .taken)))
 
 returns-5 : tie.Need-returns-5
 returns-5 c =
     let a = c .before .before .before .before .before .before .before .args in
-    sym (passed-first (checks (a .h) (a .words) (a .counters)) (valueLine (a .v) ∷ (ltb (a .b) (a .a) ⇒ 5) ∷ withinLine (a .h) (a .b) ∷ []) _
+    sym (passed-first (checks (a .h) (a .words) (a .counters)) (valueLine (a .v) ∷ (ltb (a .b) (a .a) ⇒ 5) ∷ withinLine (a .h .length) (a .b) ∷ []) _
     (c .before .before .before .before .before .before .check-record .ensures) (c .before .before .before .before .enum-told .given .1)
     ∙ simp (le-ltb _ _ (c .before .before .before .if1 .left), le-ltb _ _ (c .before .before .if2 .left), le-ltb _ _ (c .if3 .left)))
 

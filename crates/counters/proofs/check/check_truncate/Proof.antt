@@ -21,19 +21,19 @@ enum-told-2 c = search needs
 returns : tie.Need-returns
 returns c =
     let a = c .before .before .before .args in
-    refused-first (checks (a .h) (a .words) (a .counters)) (withinLine (a .h) (a .n) ∷ []) _ _ (c .before .before .check-record .ensures) (c .enum-told2 .given .1)
+    refused-first (checks (a .h) (a .words) (a .counters)) (withinLine (a .h .length) (a .n) ∷ []) _ _ (c .before .before .check-record .ensures) (c .enum-told2 .given .1)
 
 returns-2 : tie.Need-returns-2
 returns-2 c =
     let a = c .before .before .before .before .before .args in
-    sym (passed-first (checks (a .h) (a .words) (a .counters)) (withinLine (a .h) (a .n) ∷ []) _
+    sym (passed-first (checks (a .h) (a .words) (a .counters)) (withinLine (a .h .length) (a .n) ∷ []) _
     (c .before .before .before .before .check-record .ensures) (c .before .before .enum-told .given .1)
     ∙ simp (lt-ltb _ _ (c .if1 .taken)))
 
 returns-3 : tie.Need-returns-3
 returns-3 c =
     let a = c .before .before .before .before .before .args in
-    sym (passed-first (checks (a .h) (a .words) (a .counters)) (withinLine (a .h) (a .n) ∷ []) _
+    sym (passed-first (checks (a .h) (a .words) (a .counters)) (withinLine (a .h .length) (a .n) ∷ []) _
     (c .before .before .before .before .check-record .ensures) (c .before .before .enum-told .given .1)
     ∙ simp (le-ltb _ _ (c .if1 .left)))
 

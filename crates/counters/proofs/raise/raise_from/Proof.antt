@@ -22,8 +22,8 @@ mul-wrapping-add-u32 c = omega arith
 slice-read-wrapping-add-u32 : tie.Need-slice-read-wrapping-add-u32 Inv-loop μ-loop
 slice-read-wrapping-add-u32 c = omega arith
 
-from-requires : tie.Need-from-requires Inv-loop μ-loop
-from-requires c κs = search needs
+step-from-requires : tie.Need-step-from-requires Inv-loop μ-loop
+step-from-requires c κs = search needs
 
 wrapping-add-u32-requires : tie.Need-wrapping-add-u32-requires Inv-loop μ-loop
 wrapping-add-u32-requires c κs = search needs
@@ -45,7 +45,7 @@ loop-again c =
     let l = c .before .before .before .before .loop in (
       omega arith,
       lanes-more (l .inv .1) (omega arith) (omega (arith, c .before .before .slice-known2 .given (l .i)))
-          (c .before .from .result) (c .wrapping-add-u32 .result) (c .before .from .ensures) (c .wrapping-add-u32 .ensures),
+          (c .before .step-from .result) (c .wrapping-add-u32 .result) (c .before .step-from .ensures) (c .wrapping-add-u32 .ensures),
     )
 
 same-length : tie.Need-same-length Inv-loop μ-loop
@@ -63,7 +63,7 @@ raise-from-spec =
     loop-holds
     mul-wrapping-add-u32
     slice-read-wrapping-add-u32
-    from-requires
+    step-from-requires
     wrapping-add-u32-requires
     mul-lanes
     slice-write-lanes

@@ -30,6 +30,9 @@ turn : (c : tie.In-loop Inv-loop μ-loop)
 turn c =
     climb-next (c .before .loop .inv .1) (omega arith) (omega arith) (omega arith) (omega arith) (omega arith)
 
+sub-count : tie.Need-sub-count Inv-loop μ-loop
+sub-count c = search needs
+
 add-count : tie.Need-add-count Inv-loop μ-loop
 add-count c = omega (arith, turn c)
 
@@ -103,6 +106,7 @@ raise-path-spec =
     μ-loop
     height-of-requires
     loop-holds
+    sub-count
     add-count
     mul-end
     sub-end

@@ -39,6 +39,9 @@ room c =
     let r = climbed-room (a .blocks) (a .block) (a .counters .now) (loop .t) (loop .count) (loop .child) (loop .end) (loop .sum) (loop .inv .1) (higher c) in
     omega (arith, r .0, r .1, r .2, c .before .before .before .before .pre .0)
 
+sub-count : tie.Need-sub-count Inv-loop μ-loop
+sub-count c = search needs
+
 add-count : tie.Need-add-count Inv-loop μ-loop
 add-count c = omega (arith, room c)
 
@@ -118,6 +121,7 @@ ones-before-block-spec =
     μ-loop
     height-of-requires
     loop-holds
+    sub-count
     add-count
     mul-end
     sub-end

@@ -40,13 +40,13 @@ known : (c : tie.After-enum-told)
     (c .before .before .before .before .before .args .counters .now)
 known c =
     let a = c .before .before .before .before .before .args in
-    sizes-of (a .h) (a .words .now) (a .counters .now) (valueLine (a .v) ∷ withinLine (a .h) (a .i) ∷ []) (passed c)
+    sizes-of (a .h) (a .words .now) (a .counters .now) (valueLine (a .v) ∷ withinLine (a .h .length) (a .i) ∷ []) (passed c)
 
 -- and its own lines
-own : (c : tie.After-enum-told) → Passes (valueLine (c .before .before .before .before .before .args .v) ∷ withinLine (c .before .before .before .before .before .args .h) (c .before .before .before .before .before .args .i) ∷ [])
+own : (c : tie.After-enum-told) → Passes (valueLine (c .before .before .before .before .before .args .v) ∷ withinLine (c .before .before .before .before .before .args .h .length) (c .before .before .before .before .before .args .i) ∷ [])
 own c =
     let a = c .before .before .before .before .before .args in
-    lines-of (a .h) (a .words .now) (a .counters .now) (valueLine (a .v) ∷ withinLine (a .h) (a .i) ∷ []) (passed c)
+    lines-of (a .h) (a .words .now) (a .counters .now) (valueLine (a .v) ∷ withinLine (a .h .length) (a .i) ∷ []) (passed c)
 
 -- v is 0 or 1
 fine : (c : tie.After-enum-told) → c .before .before .before .before .before .args .v ≤ 1

@@ -12,7 +12,7 @@ use Rattle.words.specs.Calls.{valueLine}
 use Rattle.words.proofs.CheckLaws.{judged-pass, Passes}
 use Rattle.counters.specs.Calls.{selectTable}
 use Rattle.counters.proofs.PromiseLaws.{promise-refused, Sizes, sizes-of, lines-of}
-use Rattle.counters.proofs.ReadLaws.{select-over, select-absent, select-done, select-past}
+use Rattle.counters.proofs.ReadLaws.{select-beyond, select-over, select-absent, select-done, select-past}
 use Rattle.counters.proofs.read.select.Statement.{statement}
 use Rattle.counters.proofs.read.select.Tie as tie
 
@@ -52,56 +52,61 @@ own c =
 fine : (c : tie.After-enum-told) → c .before .before .before .before .before .args .v ≤ 1
 fine c = ltb-false 1 (c .before .before .before .before .before .args .v) (own c .0)
 
-ones-held-requires : tie.Need-ones-held-requires
-ones-held-requires c κs = let z = known c in (z .counters, omega (arith, z .least), omega (arith, z .most))
-
 returns : tie.Need-returns
 returns c =
-    let e = c .before .before in
+    let a = c .before .before .before .before .before .before .args in
+    select-beyond (a .h) (a .words .now) (a .counters .now) (a .v) (a .k) (passed (c .before)) (c .if1 .taken)
+
+ones-held-requires : tie.Need-ones-held-requires
+ones-held-requires c κs = let z = known (c .before) in (z .counters, omega (arith, z .least), omega (arith, z .most))
+
+returns-2 : tie.Need-returns-2
+returns-2 c =
+    let e = c .before .before .before in
     let a = e .before .before .before .before .before .args in
     let total = c .before .ones-held in
-    select-over (a .h) (a .words .now) (a .counters .now) (a .v) (a .k) (total .result) (known e) (fine e) (passed e) (total .ensures .1) (c .if1 .taken)
+    select-over (a .h) (a .words .now) (a .counters .now) (a .v) (a .k) (total .result) (known e) (fine e) (passed e) (total .ensures .1) (c .if2 .taken)
 
 of-value-requires : tie.Need-of-value-requires
 of-value-requires c κs = search needs
 
-returns-2 : tie.Need-returns-2
-returns-2 c =
-    let e = c .before .before .before .before in
+returns-3 : tie.Need-returns-3
+returns-3 c =
+    let e = c .before .before .before .before .before in
     let a = e .before .before .before .before .before .args in
     let total = c .before .before .before .ones-held in
     select-absent (a .h) (a .words .now) (a .counters .now) (a .v) (a .k) (total .result) (known e) (fine e) (passed e) (total .ensures .1)
-    (omega (arith, c .before .of-value .ensures, c .if2 .taken))
+    (omega (arith, c .before .of-value .ensures, c .if3 .taken))
 
 select-position-requires : tie.Need-select-position-requires
 select-position-requires c κs =
-    let e = c .before .before .before .before in
+    let e = c .before .before .before .before .before in
     let z = known e in
     (omega (arith, z .words, z .step), z .counters, omega (arith, z .least), omega (arith, z .most), fine e)
 
-returns-3 : tie.Need-returns-3
-returns-3 c =
+returns-4 : tie.Need-returns-4
+returns-4 c =
     let a = c .before .before .before .before .before .before .args in
     promise-refused (selectTable (a .h) (length (a .words .now)) (length (a .counters .now)) (a .v)) refused _ _ _
     (c .before .before .before .check-select .result) (c .before .r .given .0 .0) (c .before .before .before .check-select .ensures) (c .before .r .given .1)
 
-returns-4 : tie.Need-returns-4
-returns-4 c =
-    let e = c .before .before .before .before .before .before in
+returns-5 : tie.Need-returns-5
+returns-5 c =
+    let e = c .before .before .before .before .before .before .before in
     let a = e .before .before .before .before .before .args in
     let total = c .before .before .before .before .before .ones-held in
     let place = c .before .select-position in
     select-done (a .h) (a .words .now) (a .counters .now) (a .v) (a .k) (total .result) (known e) (fine e) (passed e) (total .ensures .1) (place .result)
-    (omega (arith, c .before .before .before .of-value .ensures, c .before .before .if2 .left)) (place .ensures .1) (c .if3 .taken)
+    (omega (arith, c .before .before .before .of-value .ensures, c .before .before .if3 .left)) (place .ensures .1) (c .if4 .taken)
 
-returns-5 : tie.Need-returns-5
-returns-5 c =
-    let e = c .before .before .before .before .before .before in
+returns-6 : tie.Need-returns-6
+returns-6 c =
+    let e = c .before .before .before .before .before .before .before in
     let a = e .before .before .before .before .before .args in
     let total = c .before .before .before .before .before .ones-held in
     let place = c .before .select-position in
     select-past (a .h) (a .words .now) (a .counters .now) (a .v) (a .k) (total .result) (known e) (fine e) (passed e) (total .ensures .1) (place .result)
-    (omega (arith, c .before .before .before .of-value .ensures, c .before .before .if2 .left)) (place .ensures .1) (c .if3 .left)
+    (omega (arith, c .before .before .before .of-value .ensures, c .before .before .if3 .left)) (place .ensures .1) (c .if4 .left)
 
 pub select-spec : {M : Type 1} → statement M
 select-spec =
@@ -110,11 +115,12 @@ select-spec =
     check-select-requires
     enum-known-r
     enum-told
-    ones-held-requires
     returns
-    of-value-requires
+    ones-held-requires
     returns-2
-    select-position-requires
+    of-value-requires
     returns-3
+    select-position-requires
     returns-4
-    returns-5)
+    returns-5
+    returns-6)

@@ -15,7 +15,8 @@ use Rattle.words.proofs.Sums.{lt-or, ones-flat}
 use Rattle.words.proofs.WordLaws.{bitAt-le, bitAt-past}
 use Rattle.words.proofs.CheckLaws.{judged-pass}
 use Rattle.counters.specs.Tree.{blocksOf}
-use Rattle.counters.specs.Working.{AllFit, Decides}
+use Rattle.counters.specs.Record.{AllFit}
+use Rattle.counters.specs.Working.{Decides}
 use Rattle.counters.specs.Calls.{checks}
 use Rattle.counters.proofs.PromiseLaws.{Sizes, sizes}
 use Rattle.counters.proofs.ReadLaws.{verify-refused, verify-unfit, verify-fits}

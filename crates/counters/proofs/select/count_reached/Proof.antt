@@ -1,31 +1,32 @@
--- `counters::select::count_reached` meets its contract. The invariant: of the first i counters `count` hold at most k of v. Assumes nothing.
-use mathlib.Core.Path.{_≡_, sym, ap, _∙_, subst}
+-- `counters::select::count_reached` meets its contract. The invariant: of the first i counters `count` hold at most k of v, the last of these `last`.
+-- Assumes nothing.
+use mathlib.Core.Path.{_≡_, sym, subst}
 use mathlib.Core.Logic.{_⊎_, ⊎-elim, inl, inr}
 use Prim.Native.Nat.{ℕ, _+_, _-_, _*_, _≤_, _<_}
 use native.Mathlib.Nat.{mul-zero}
 use native.Mathlib.Omega.{arith}
 use lib.ListN.{getD}
-use Rattle.words.specs.Bits.{ones}
-use Rattle.words.specs.Working.{atMost}
-use Rattle.words.proofs.Sums.{ones-zero}
 use Rattle.counters.specs.Descent.{Valued}
-use Rattle.counters.proofs.SelectionLaws.{times-more, reached-more}
+use Rattle.counters.proofs.SelectionLaws.{times-more, Passed, passed-none, passed-more}
 use Rattle.counters.proofs.select.count_reached.Statement.{statement}
 use Rattle.counters.proofs.select.count_reached.Tie as tie
 
 abbrev Inv-loop : tie.InvT-loop
-Inv-loop counters from size v k bits₀ count₀ i₀ bits count i =
+Inv-loop counters from size v k bits₀ count₀ last₀ i₀ bits count last i =
     (i ≤ 7)
     × (bits ≡ size * i)
     × (bits ≤ 16777216 * i)
     × (count ≤ i)
-    × ((P : ℕ → ℕ) → ((j : ℕ) → j < 7 → Valued v (size * (j + 1)) (getD counters (from + j) 0) (P j)) → count ≡ ones (atMost P k) i)
+    × (last ≤ k)
+    × ((P : ℕ → ℕ) → ((j : ℕ) → j < 7 → Valued v (size * (j + 1)) (getD counters (from + j) 0) (P (j + 1))) → Passed P k i count last)
 
 abbrev μ-loop : tie.MeasureT-loop
-μ-loop counters from size v k bits₀ count₀ i₀ bits count i = 7 - i
+μ-loop counters from size v k bits₀ count₀ last₀ i₀ bits count last i = 7 - i
 
 loop-holds : tie.Need-loop-holds Inv-loop μ-loop
-loop-holds c = (omega arith, sym (mul-zero (c .before .args .size)), omega arith, omega arith, λ P h. sym (ones-zero (atMost P (c .before .args .k))))
+loop-holds c =
+    let s = c .before .args in
+    (omega arith, sym (mul-zero (s .size)), omega arith, omega arith, omega arith, λ P h. passed-none P (s .k))
 
 add-bits : tie.Need-add-bits Inv-loop μ-loop
 add-bits c = omega arith
@@ -54,9 +55,10 @@ loop-less c = omega arith
 -- one more counter, at most k or above it
 came : (c : tie.Joined1 Inv-loop μ-loop)
     → let k = c .before .before .before .before .before .before .args .k in
-    let n = c .before .before .before .before .loop .count in
-    ((c .before .value-count .result ≤ k) × (c .if1 .count ≡ n + 1)) ⊎ ((k < c .before .value-count .result) × (c .if1 .count ≡ n))
-came c = ⊎-elim (λ w. inl (w .0 .taken, w .1)) (λ w. inr (w .0 .left, w .1)) (c .if1 .came)
+    let l = c .before .before .before .before .loop in
+    let x = c .before .value-count .result in
+    ((x ≤ k) × ((c .if1 .count ≡ l .count + 1) × (c .if1 .last ≡ x))) ⊎ ((k < x) × ((c .if1 .count ≡ l .count) × (c .if1 .last ≡ l .last)))
+came c = ⊎-elim (λ w. inl (w .0 .taken, (w .1, w .2))) (λ w. inr (w .0 .left, (w .1, w .2))) (c .if1 .came)
 
 loop-again : tie.Need-loop-again Inv-loop μ-loop
 loop-again c =
@@ -68,16 +70,26 @@ loop-again c =
       sym e,
       omega arith,
       ⊎-elim (λ w. omega (arith, w .1)) (λ w. omega (arith, w .1)) (came c),
+      ⊎-elim (λ w. omega (arith, w)) (λ w. omega (arith, w .1)) (came c),
       λ P h.
-          reached-more P (s .k) (l .i) (l .count) (c .if1 .count) (x .result)
-          (x .ensures (P (l .i)) (subst (λ (n : ℕ). Valued (s .v) n (getD (s .counters .now) (s .from + l .i) 0) (P (l .i))) e (h (l .i) (omega arith))))
-          (l .inv .4 P h) (came c),
+          passed-more P (s .k) (l .i) (l .count) (c .if1 .count) (x .result) (l .last) (c .if1 .last)
+          (x .ensures (P (l .i + 1)) (subst (λ (n : ℕ). Valued (s .v) n (getD (s .counters .now) (s .from + l .i) 0) (P (l .i + 1))) e (h (l .i) (omega arith))))
+          (l .inv .5 P h) (came c),
     )
+
+sub-t16 : tie.Need-sub-t16 Inv-loop μ-loop
+sub-t16 c = omega arith
 
 returns : tie.Need-returns Inv-loop μ-loop
 returns c =
-    let e : c .before .loop .i ≡ 7 = omega arith in
-    (omega arith, λ P h. c .before .loop .inv .4 P h ∙ ap (ones (atMost P (c .before .before .before .args .k))) e)
+    let s = c .before .before .before .args in
+    let l = c .before .loop in
+    let e : l .i ≡ 7 = omega arith in (
+      omega arith,
+      λ P h.
+          let w = subst (λ (i : ℕ). Passed P (s .k) i (l .count) (l .last)) e (l .inv .5 P h) in
+          (w .reach, λ up z. omega (arith, w .value up z, l .inv .4)),
+    )
 
 pub count-reached-spec : {M : Type 1} → statement M
 count-reached-spec =
@@ -95,4 +107,5 @@ count-reached-spec =
     add-i
     loop-less
     loop-again
+    sub-t16
     returns)

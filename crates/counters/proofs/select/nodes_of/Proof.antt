@@ -11,6 +11,9 @@ use Rattle.counters.proofs.select.nodes_of.Tie as tie
 returns : tie.Need-returns
 returns c = let n : ℕ = c .before .args .blocks in sym (ap (nodes n) (c .if1 .taken) ∙ nodes-zero n)
 
+sub-result : tie.Need-sub-result
+sub-result c = search needs
+
 add-result : tie.Need-add-result
 add-result c = search needs
 
@@ -18,15 +21,33 @@ returns-2 : tie.Need-returns-2
 unfolding nodes
 returns-2 c = ap (nodes (c .before .before .args .blocks)) (sym (c .if2 .taken))
 
+mul-square : tie.Need-mul-square
+mul-square c = search needs
+
+sub-result-2 : tie.Need-sub-result-2
+sub-result-2 c = search needs
+
 add-result-2 : tie.Need-add-result-2
 add-result-2 c = search needs
+
+div-result : tie.Need-div-result
+div-result c = search needs
 
 returns-3 : tie.Need-returns-3
 unfolding nodes
 returns-3 c = ap (nodes (c .before .before .before .args .blocks)) (sym (c .if3 .taken))
 
+mul-cube : tie.Need-mul-cube
+mul-cube c = search needs
+
+sub-result-3 : tie.Need-sub-result-3
+sub-result-3 c = search needs
+
 add-result-3 : tie.Need-add-result-3
 add-result-3 c = search needs
+
+div-result-2 : tie.Need-div-result-2
+div-result-2 c = search needs
 
 returns-4 : tie.Need-returns-4
 unfolding nodes
@@ -37,4 +58,4 @@ returns-4 c =
 
 pub nodes-of-spec : {M : Type 1} → statement M
 nodes-of-spec =
-    tie.close (tie.spec returns add-result returns-2 add-result-2 returns-3 add-result-3 returns-4)
+    tie.close (tie.spec returns sub-result add-result returns-2 mul-square sub-result-2 add-result-2 div-result returns-3 mul-cube sub-result-3 add-result-3 div-result-2 returns-4)

@@ -9,9 +9,10 @@ use Rattle.words.specs.Bits.{bitAt}
 use Rattle.words.specs.Strip.{rankOf, selectOf}
 use Rattle.words.specs.Words.{placeIn}
 use Rattle.words.proofs.WordLaws.{bitAt-le}
-use Rattle.counters.specs.Working.{AllFit}
+use Rattle.words.proofs.SearchLaws.{select-le, rank-le}
+use Rattle.counters.specs.Record.{AllFit}
 use Rattle.counters.specs.Descent.{Lies, valuesBefore}
-use Rattle.counters.proofs.SelectionLaws.{select-le, rank-le, block-place}
+use Rattle.counters.proofs.SelectionLaws.{block-place}
 use Rattle.counters.proofs.select.select_position.Statement.{statement}
 use Rattle.counters.proofs.select.select_position.Tie as tie
 

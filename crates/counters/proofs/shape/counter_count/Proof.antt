@@ -1,7 +1,7 @@
 -- `counters::shape::counter_count` meets its contract. The invariant: `count` is the nodes of level t, and `sum` those of the levels 1 to t.
 -- Assumes nothing.
-use mathlib.Core.Path.{_≡_, sym, ap, _∙_}
-use Prim.Native.Nat.{ℕ, _+_, _-_, _*_, _/_, _^_, _≤_, _<_}
+use mathlib.Core.Path.{_≡_, ap, _∙_}
+use Prim.Native.Nat.{ℕ, _-_, _*_, _/_, _≤_}
 use native.Mathlib.Omega.{arith}
 use borrow.Author.Needs.{needs}
 use Rattle.counters.specs.Tree.{nodes, height, total}
@@ -25,6 +25,9 @@ loop-holds c = omega (arith, nodes-zero (c .before .args .capacity / 512), total
 -- at most three levels
 few : (c : tie.At-loop Inv-loop μ-loop) → c .before .height-of .result ≤ 3
 few c = omega (arith, c .before .height-of .ensures, height-le (c .before .before .args .capacity / 512))
+
+sub-count : tie.Need-sub-count Inv-loop μ-loop
+sub-count c = search needs
 
 add-count : tie.Need-add-count Inv-loop μ-loop
 add-count c = omega arith
@@ -61,6 +64,7 @@ counter-count-spec =
     μ-loop
     height-of-requires
     loop-holds
+    sub-count
     add-count
     add-sum
     add-t

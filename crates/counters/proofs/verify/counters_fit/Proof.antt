@@ -7,7 +7,7 @@ use lib.ListN.{length}
 use Rattle.words.specs.Bits.{bitAt}
 use Rattle.counters.specs.Tree.{height}
 use Rattle.counters.proofs.TreeLaws.{height-le}
-use Rattle.counters.proofs.LayLaws.{Bounded, bounded, Upto, first-room, first-no, first-yes, upto-few, upto-room, next-room, more-no, more-yes, upto-all}
+use Rattle.counters.proofs.BuildLaws.{Bounded, bounded, Upto, first-room, first-no, first-yes, upto-few, upto-room, next-room, more-no, more-yes, upto-all}
 use Rattle.counters.proofs.verify.counters_fit.Statement.{statement}
 use Rattle.counters.proofs.verify.counters_fit.Tie as tie
 
@@ -19,6 +19,9 @@ abbrev μ-loop : tie.MeasureT-loop
 
 height-of-requires : tie.Need-height-of-requires Inv-loop μ-loop
 height-of-requires c κs = search needs
+
+sub-count : tie.Need-sub-count Inv-loop μ-loop
+sub-count c = search needs
 
 add-count : tie.Need-add-count Inv-loop μ-loop
 add-count c = omega arith
@@ -53,6 +56,9 @@ loop-holds c =
 -- there is a next level
 more : (c : tie.In-loop Inv-loop μ-loop) → c .before .loop .t < height (c .before .before .before .before .before .before .before .args .blocks)
 more c = omega (arith, c .before .loop .inv .0)
+
+sub-count-2 : tie.Need-sub-count-2 Inv-loop μ-loop
+sub-count-2 c = search needs
 
 add-count-2 : tie.Need-add-count-2 Inv-loop μ-loop
 add-count-2 c = omega (arith, upto-few (c .before .loop .inv .1))
@@ -92,12 +98,14 @@ counters-fit-spec =
     Inv-loop
     μ-loop
     height-of-requires
+    sub-count
     add-count
     mul-at
     sub-at
     blocks-fit-requires
     returns
     loop-holds
+    sub-count-2
     add-count-2
     mul-at-2
     sub-at-2

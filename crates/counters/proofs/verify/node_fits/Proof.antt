@@ -1,7 +1,7 @@
 -- `counters::verify::node_fits` meets its contract. Assumes nothing.
 use Prim.Native.Nat.{ℕ, _+_, _-_, _*_}
 use native.Mathlib.Omega.{arith}
-use Rattle.counters.proofs.LayLaws.{node-compared}
+use Rattle.counters.proofs.BuildLaws.{node-compared}
 use borrow.Author.Needs.{needs}
 use Rattle.counters.proofs.verify.node_fits.Statement.{statement}
 use Rattle.counters.proofs.verify.node_fits.Tie as tie

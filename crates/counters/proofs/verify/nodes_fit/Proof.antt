@@ -2,8 +2,8 @@
 use Prim.Native.Nat.{ℕ, _-_, _≤_}
 use native.Mathlib.Omega.{arith}
 use Rattle.counters.specs.Working.{nodeOnes}
-use Rattle.counters.specs.Laying.{LevelFrom}
-use Rattle.counters.proofs.LayLaws.{level-none, level-no, level-yes}
+use Rattle.counters.specs.Building.{LevelFrom}
+use Rattle.counters.proofs.BuildLaws.{level-none, level-no, level-yes}
 use Rattle.counters.proofs.verify.nodes_fit.Statement.{statement}
 use Rattle.counters.proofs.verify.nodes_fit.Tie as tie
 

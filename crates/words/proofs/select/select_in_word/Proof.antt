@@ -1,12 +1,11 @@
 -- `words::select::select_in_word` meets its contract: j is the byte that holds the k-th one, and `under` the ones before it. Assumes nothing.
-use mathlib.Core.Path.{_≡_, sym, ap, _∙_}
+use mathlib.Core.Path.{_≡_, sym, ap}
 use Prim.Native.Nat.{ℕ, _+_, _*_, _/_, _%_, _^_, _≤_, _<_}
 use native.Mathlib.Nat.{le-refl, mod-lt, zero-lt-suc}
 use native.Mathlib.Omega.{arith}
 use borrow.Author.Needs.{needs}
-use lib.Dec.{lit<}
 use Rattle.words.specs.Bits.{bit, ones}
-use Rattle.words.specs.Words.{byteOf, Prefixes, selectIn}
+use Rattle.words.specs.Words.{byteOf, selectIn}
 use Rattle.words.proofs.Sums.{ones-le}
 use Rattle.words.proofs.BitLaws.{bit-le, byte-ones}
 use Rattle.words.proofs.SearchLaws.{Reached}
