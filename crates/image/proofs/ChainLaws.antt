@@ -1,15 +1,13 @@
 -- The laws of the header, of records and of a sound chain. Assumes nothing.
 use mathlib.Core.Path.{_≡_, refl, sym, ap, subst, _∙_}
-use mathlib.Core.Bool.{Bool, true, false, cond, not, _&&_, _||_, and-false, true≢false, false≢true}
+use mathlib.Core.Bool.{Bool, true, false, cond, not, _&&_, _||_, true≢false, false≢true}
 use mathlib.Core.List.{List, [], _∷_, _++_}
 use mathlib.Core.Option.{Option, some, none}
-use Prim.Native.Nat.{ℕ, zero, suc, _+_, _-_, _*_, _%_, _^_, _<_, _≤_}
-use native.Mathlib.Nat.{add-assoc}
+use Prim.Native.Nat.{ℕ, zero, suc, _+_, _-_, _*_, _%_, _<_, _≤_}
 use native.Mathlib.Omega.{arith}
 use lib.ListN.{length, getD, take, drop}
 use lib.Dec.{leb, eqb}
-use borrow.Author.Tests.{le-leb, lt-leb, eq-eqb, ne-eqb, leb-true, eqb-true, eqb-false}
-use Rattle.words.specs.Bits.{digits}
+use borrow.Author.Tests.{le-leb, eq-eqb, ne-eqb, leb-true, eqb-true, eqb-false}
 use Rattle.words.specs.Strip.{orElse}
 use Rattle.words.specs.Words.{placeIn}
 use Rattle.words.specs.declared.refusal.Refusal.{Refusal}
@@ -18,21 +16,11 @@ use Rattle.words.specs.declared.refusal.Answer.the-variants.{Value, Refused}
 use Rattle.words.specs.Refusals.{numberOf, judge, unless, value, refused, toldOf}
 use Rattle.words.proofs.BoolLaws.{and-first, and-second, not-not}
 use Rattle.words.proofs.CheckLaws.{passes}
-use Rattle.words.proofs.DigitLaws.{digits-ext}
 use Rattle.image.specs.Bytes.{num}
-use Rattle.image.specs.Layout.{unitBytes, kind, mostLabel, mostRow}
-use Rattle.image.specs.Chain.{nextAt, labelAt, lengthAt, endAt, goodLabel, soundHeader, soundRecord, among, inFront, chainFrom, chainOf, placeOf, endOf, linkOf}
+use Rattle.image.specs.Layout.{unitBytes, kind, mostBytes, mostLabel, mostRow}
+use Rattle.image.specs.Chain.{nextAt, labelAt, lengthAt, endAt, goodLabel, goodSize, soundHeader, soundRecord, among, inFront, chainFrom, chainOf, placeOf, endOf, linkOf}
 use Rattle.image.specs.Rows.{partAt}
-use Rattle.image.specs.Calls.{isSome, recordsIn, recordsOf, recordWith, placeIs, openTable, openTold, openPart}
-
--- ---- numbers of bytes
--- eight bytes are twice four
-pub num-eight : (s : List ℕ) (at : ℕ) → num s at 8 ≡ num s at 4 + 4294967296 * num s (at + 4) 4
-unfolding digits
-num-eight s at =
-    let moved : num s (at + 4) 4 ≡ digits 256 (λ i. getD s (at + (4 + i)) 0) 4 =
-    digits-ext 256 (λ i. getD s (at + 4 + i) 0) (λ i. getD s (at + (4 + i)) 0) 4 (λ i l. ap (λ (k : ℕ). getD s k 0) (add-assoc at 4 i)) in
-    omega (arith, moved)
+use Rattle.image.specs.Calls.{isSome, recordsIn, recordsOf, recordWith, rowPlace, rowPart, openTable, openTold, openPart}
 
 -- ---- the header and a record
 -- a test that holds exactly where the facts do
@@ -42,10 +30,28 @@ decides true false a b c d = sym (d (a refl))
 decides false true a b c d = b (c refl)
 decides false false a b c d = refl
 
+-- a test is not both
+pub false-true : {A : Type 0} {t : Bool} → t ≡ false → t ≡ true → A
+false-true p q = absurd (false≢true (sym p ∙ q))
+
+-- a size is good from 16 to 2^32 bytes
+pub size-good : (n : ℕ) → unitBytes ≤ n → n ≤ mostBytes → goodSize n ≡ true
+size-good n p q = simp (le-leb unitBytes n p, le-leb n mostBytes q)
+
+pub size-facts : (n : ℕ) → goodSize n ≡ true → (unitBytes ≤ n) × (n ≤ mostBytes)
+size-facts n h = (leb-true _ _ (and-first (leb unitBytes n) (leb n mostBytes) h), leb-true _ _ (and-second (leb unitBytes n) (leb n mostBytes) h))
+
+-- a label is good from 1 to 64
+pub label-good : (n : ℕ) → 1 ≤ n → n ≤ mostLabel → goodLabel n ≡ true
+label-good n p q = simp (le-leb 1 n p, le-leb n mostLabel q)
+
+pub label-facts : (n : ℕ) → goodLabel n ≡ true → (1 ≤ n) × (n ≤ mostLabel)
+label-facts n h = (leb-true _ _ (and-first (leb 1 n) (leb n mostLabel) h), leb-true _ _ (and-second (leb 1 n) (leb n mostLabel) h))
+
 -- what a sound header is known for
 pub record HeaderFacts (s : List ℕ) : Type 0 where
   pub least : unitBytes ≤ length s
-  pub most : length s ≤ 2 ^ 32
+  pub most : length s ≤ mostBytes
   pub kinds : num s 4 4 ≡ kind
   pub zeros : num s 8 8 ≡ 0
 
@@ -53,11 +59,11 @@ pub record HeaderFacts (s : List ℕ) : Type 0 where
 pub header-facts : (s : List ℕ) → soundHeader s ≡ true → HeaderFacts s
 unfolding soundHeader
 header-facts s h =
-    let h1 = and-second (leb unitBytes (length s)) _ h in
-    let h2 = and-second (leb (length s) (2 ^ 32)) _ h1 in
+    let h1 = size-facts (length s) (and-first (goodSize (length s)) _ h) in
+    let h2 = and-second (goodSize (length s)) _ h in
     record {
-      least = leb-true _ _ (and-first (leb unitBytes (length s)) _ h);
-      most = leb-true _ _ (and-first (leb (length s) (2 ^ 32)) _ h1);
+      least = h1 .0;
+      most = h1 .1;
       kinds = eqb-true _ _ (and-first (eqb (num s 4 4) kind) _ h2);
       zeros = eqb-true _ _ (and-second (eqb (num s 4 4) kind) _ h2);
     }
@@ -65,7 +71,7 @@ header-facts s h =
 -- and the facts make it sound
 pub header-sound : (s : List ℕ) → HeaderFacts s → soundHeader s ≡ true
 unfolding soundHeader
-header-sound s f = simp (le-leb _ _ (f .least), le-leb _ _ (f .most), eq-eqb _ _ (f .kinds), eq-eqb _ _ (f .zeros))
+header-sound s f = simp (size-good (length s) (f .least) (f .most), eq-eqb _ _ (f .kinds), eq-eqb _ _ (f .zeros))
 
 -- what a sound record is known for
 pub record RecordFacts (s : List ℕ) (a : ℕ) : Type 0 where
@@ -88,11 +94,11 @@ record-facts s a h =
     let h1 = and-second (leb (a + 16) (length s)) _ h in
     let h2 = and-second (goodLabel (labelAt s a)) _ h1 in
     let h3 = and-second (leb (lengthAt s a) mostRow) _ h2 in
-    let l = and-first (goodLabel (labelAt s a)) _ h1 in
+    let l = label-facts (labelAt s a) (and-first (goodLabel (labelAt s a)) _ h1) in
     record {
       room = leb-true _ _ (and-first (leb (a + 16) (length s)) _ h);
-      low = leb-true _ _ (and-first (leb 1 (labelAt s a)) _ l);
-      high = leb-true _ _ (and-second (leb 1 (labelAt s a)) _ l);
+      low = l .0;
+      high = l .1;
       short = leb-true _ _ (and-first (leb (lengthAt s a) mostRow) _ h2);
       inside = leb-true _ _ (and-first (leb (endAt s a) (length s)) _ h3);
       ahead = λ n. leb-true _ _ (or-second (eqb (nextAt s a) 0) _ (ne-eqb _ _ n) (and-second (leb (endAt s a) (length s)) _ h3));
@@ -102,7 +108,7 @@ record-facts s a h =
 pub record-sound : (s : List ℕ) (a : ℕ) → RecordFacts s a → soundRecord s a ≡ true
 unfolding soundRecord
 record-sound s a f =
-    simp (le-leb _ _ (f .room), le-leb _ _ (f .low), le-leb _ _ (f .high), le-leb _ _ (f .short), le-leb _ _ (f .inside)) (go (eqb (nextAt s a) 0) refl)
+    simp (le-leb _ _ (f .room), label-good (labelAt s a) (f .low) (f .high), le-leb _ _ (f .short), le-leb _ _ (f .inside)) (go (eqb (nextAt s a) 0) refl)
   where
     go : (t : Bool) → eqb (nextAt s a) 0 ≡ t → (t || leb (endAt s a) (unitBytes * nextAt s a)) ≡ true
     go true p = refl
@@ -187,7 +193,7 @@ front-some a none rs e = let z : _≡_ {A = ℕ} 0 1 = cc in absurd (omega arith
 front-some a (some bs) rs e = (bs, refl, cc)
 
 -- nothing is not something
-none-some : {B : Type 0} {A : Type 0} {o : Option A} {x : A} → o ≡ none → o ≡ some x → B
+pub none-some : {B : Type 0} {A : Type 0} {o : Option A} {x : A} → o ≡ none → o ≡ some x → B
 none-some p q = let z : _≡_ {A = ℕ} 0 1 = cc in absurd (omega arith)
 
 -- at byte 0 the chain has ended
@@ -254,7 +260,7 @@ links-each (links-more n f u k) z zero l = record { facts = f; unit = z; past = 
 links-each (links-more n f u k) z (suc i) l = links-each k (omega arith) i (omega arith)
 
 -- where there is a record, the chain has not ended
-links-some : {s : List ℕ} {a : ℕ} {met rs : List ℕ} → Links s a met rs → (j : ℕ) → j < length rs → a ≡ 0 → ⊥
+pub links-some : {s : List ℕ} {a : ℕ} {met rs : List ℕ} → Links s a met rs → (j : ℕ) → j < length rs → a ≡ 0 → ⊥
 links-some links-end j l = absurd (omega arith)
 links-some (links-more n f u k) j l = n
 
@@ -430,18 +436,6 @@ end-last s (b ∷ []) a = refl
 end-last s (b ∷ c ∷ cs) a = end-last s (c ∷ cs) a
 
 -- ---- opening a row
--- a label is good from 1 to 64
-pub label-good : (n : ℕ) → 1 ≤ n → n ≤ mostLabel → goodLabel n ≡ true
-label-good n p q = simp (le-leb 1 n p, le-leb n mostLabel q)
-
--- none below
-pub label-low : (n : ℕ) → n < 1 → goodLabel n ≡ false
-label-low n p = simp (lt-leb 1 n p)
-
--- none above
-pub label-high : (n : ℕ) → mostLabel < n → goodLabel n ≡ false
-label-high n p = simp (lt-leb n mostLabel p, and-false)
-
 -- 10 the chain is not sound
 pub open-unsound : (s : List ℕ) (label : ℕ) → chainOf s ≡ none → refused 10 ≡ openTold s label
 open-unsound s label e = simp e
@@ -465,12 +459,12 @@ pub record Opened (s : List ℕ) (label : ℕ) : Type 0 where
   pub chain : chainOf s ≡ some (recordsOf s)
   pub low : 1 ≤ label
   pub high : label ≤ mostLabel
-  pub found : recordWith s label ≡ some (placeIs s label)
-  pub its : labelAt s (placeIs s label) ≡ label
-  pub placed : Placed s (placeIs s label)
+  pub found : recordWith s label ≡ some (rowPlace s label)
+  pub its : labelAt s (rowPlace s label) ≡ label
+  pub placed : Placed s (rowPlace s label)
 
 -- a chain that is there has its records
-some-in : (o : Option (List ℕ)) → isSome o ≡ true → o ≡ some (recordsIn o)
+pub some-in : (o : Option (List ℕ)) → isSome o ≡ true → o ≡ some (recordsIn o)
 some-in none h = absurd (false≢true h)
 some-in (some rs) h = refl
 
@@ -487,17 +481,17 @@ found-placed s rs label a f k = subst (Placed s) (k .here) (f .each (k .index) (
 pub opened : (s : List ℕ) (label : ℕ) → judge (openTable s label) ≡ none → Opened s label
 opened s label e =
     let w = passes (openTable s label) e in
-    let g = not-not (goodLabel label) (w .1 .0) in
+    let g = label-facts label (not-not (goodLabel label) (w .1 .0)) in
     let c : chainOf s ≡ some (recordsOf s) = some-in (chainOf s) (not-not _ (w .0)) in
-    let p : recordWith s label ≡ some (placeIs s label) = some-place (recordWith s label) (not-not _ (w .1 .1 .0)) in
-    let k = place-found s label (recordsOf s) (placeIs s label) p in
+    let p : recordWith s label ≡ some (rowPlace s label) = some-place (recordWith s label) (not-not _ (w .1 .1 .0)) in
+    let k = place-found s label (recordsOf s) (rowPlace s label) p in
     record {
       chain = c;
-      low = leb-true _ _ (and-first (leb 1 label) (leb label mostLabel) g);
-      high = leb-true _ _ (and-second (leb 1 label) (leb label mostLabel) g);
+      low = g .0;
+      high = g .1;
       found = p;
       its = k .its;
-      placed = found-placed s (recordsOf s) label (placeIs s label) (chain-facts s (recordsOf s) c) k;
+      placed = found-placed s (recordsOf s) label (rowPlace s label) (chain-facts s (recordsOf s) c) k;
     }
 
 -- a value says that no line applies
@@ -512,13 +506,13 @@ refused-told (some m) n y e = cc
 
 -- an opening that answers a value is not refused, and the value is the row's place
 pub opened-value : (s : List ℕ) (label : ℕ) (o : Answer) (at : ℕ) → toldOf o ≡ openTold s label → o ≡ Value at
-    → (judge (openTable s label) ≡ none) × (at ≡ placeIs s label)
-opened-value s label o at e d = value-told (judge (openTable s label)) at (placeIs s label) (sym (ap toldOf d) ∙ e)
+    → (judge (openTable s label) ≡ none) × (at ≡ rowPlace s label)
+opened-value s label o at e d = value-told (judge (openTable s label)) at (rowPlace s label) (sym (ap toldOf d) ∙ e)
 
 -- an opening that answers a refusal
 pub opened-refused : (s : List ℕ) (label : ℕ) (o : Answer) (r : Refusal) → toldOf o ≡ openTold s label → o ≡ Refused r
     → judge (openTable s label) ≡ some (numberOf r)
-opened-refused s label o r e d = refused-told (judge (openTable s label)) (numberOf r) (placeIs s label) (sym (ap toldOf d) ∙ e)
+opened-refused s label o r e d = refused-told (judge (openTable s label)) (numberOf r) (rowPlace s label) (sym (ap toldOf d) ∙ e)
 
 -- an opened row's record
 pub opened-record : (s : List ℕ) (label : ℕ) (o : Answer) (at : ℕ) → toldOf o ≡ openTold s label → o ≡ Value at → RecordFacts s at
@@ -529,13 +523,13 @@ opened-record s label o at e d =
 -- the part of a refused opening
 pub part-refused : (s : List ℕ) (label : ℕ) (o : Answer) (r : Refusal) → toldOf o ≡ openTold s label → o ≡ Refused r → [] ≡ openPart s label
 part-refused s label o r e d =
-    ap (λ (v : Option ℕ). unless v (λ n. []) (partAt s (placeIs s label))) (sym (opened-refused s label o r e d))
+    ap (λ (v : Option ℕ). unless v (λ n. []) (rowPart s label)) (sym (opened-refused s label o r e d))
 
 -- the part of an opened row
 pub part-opened : (s : List ℕ) (label : ℕ) (o : Answer) (at : ℕ) → toldOf o ≡ openTold s label → o ≡ Value at → partAt s at ≡ openPart s label
 part-opened s label o at e d =
     let k = opened-value s label o at e d in
-    ap (partAt s) (k .1) ∙ ap (λ (v : Option ℕ). unless v (λ n. []) (partAt s (placeIs s label))) (sym (k .0))
+    ap (partAt s) (k .1) ∙ ap (λ (v : Option ℕ). unless v (λ n. []) (rowPart s label)) (sym (k .0))
 
 -- a part from a to a + n
 pub part-taken : (s : List ℕ) (a n m : ℕ) → n ≡ m → take (a + n - a) (drop a s) ≡ take m (drop a s)

@@ -2,7 +2,15 @@ pub mod ChainLaws
 pub mod WalkLaws
 pub mod PutLaws
 pub mod WriteLaws
+pub mod FreezeLaws
+pub mod FrozenLaws
 pub mod NumberLaws
 pub mod EntryLaws
 pub mod PartLaws
+pub mod RightLaws
+pub mod WrittenLaws
+pub mod RowLaws
+pub mod OpenedLaws
+pub mod ShapeLaws
+pub mod HeldLaws
 pub mod Examples

@@ -3,54 +3,52 @@
 use mathlib.Core.Path.{_≡_, refl, sym, ap, ap₂, _∙_, subst}
 use mathlib.Core.Bool.{Bool, true, false, _&&_}
 use mathlib.Core.Logic.{_⊎_, inl, inr}
-use mathlib.Core.List.{List, [], _++_, append-nil}
+use mathlib.Core.List.{List}
 use mathlib.Core.Option.{none}
-use Prim.Native.Nat.{ℕ, suc, _+_, _-_, _*_, _/_, _%_, _^_, _≤_, _<_, min}
+use Prim.Native.Nat.{ℕ, suc, _+_, _-_, _*_, _/_, _%_, _^_, _≤_, _<_}
 use native.Mathlib.Nat.{two-pow-succ, min-eq-left, le-refl, mul-add, mul-one, mul-suc, mul-assoc, mul-le-mul-left, lt-mul-div-succ, mul-div-cancel-left}
 use native.Mathlib.Omega.{arith}
 use lib.Dec.{leb, eqb}
 use borrow.Author.Tests.{leb-true, leb-false, eqb-true}
-use lib.ListN.{length, getD, drop, length-append, List·getD-eq-default}
-use Rattle.words.specs.Bits.{bit, bitAt, ones, digits}
+use lib.ListN.{length, getD, List·getD-eq-default}
+use Rattle.words.specs.Bits.{bit, bitAt, ones}
 use Rattle.words.specs.Strip.{cell, holds, rank, rankOf, select, selectOf}
+use Rattle.words.specs.Working.{ofValue, atMost}
 use Rattle.words.specs.Words.{placeIn}
-use Rattle.words.specs.Working.{atMost}
 use Rattle.words.specs.Refusals.{Line, judge, Told, value, refused, found}
 use Rattle.words.proofs.BoolLaws.{and-first, and-second}
 use Rattle.words.proofs.Sums.{lt-or, ones-zero, ones-le, ones-mono, part-ones, length-listOf, getD-listOf}
 use Rattle.words.proofs.BitLaws.{bit-le, one-shl}
-use Rattle.words.proofs.SearchLaws.{select-exists, select-place, select-none, rank-part, rank-ones, part-select}
+use Rattle.words.proofs.SearchLaws.{select-exists, select-place, select-none, rank-le, select-longer, rank-part, part-select, value-rank, value-le}
 use Rattle.counters.specs.Promises.{Promise, AtMost, Below}
 use Rattle.counters.proofs.PromiseLaws.{promise-passed}
-use Rattle.counters.proofs.ReadLaws.{ofValue, value-rank, value-le, select-longer}
-use Rattle.image.specs.Bytes.{num, le, bitFrom}
-use Rattle.image.specs.Layout.{blocksIn, startIn, sizeIn, blocksOf, bitsStart, sizeOf, entryOf, entriesFrom, bytesOf, recordOf}
+use Rattle.image.specs.Bytes.{num, bitFrom}
+use Rattle.image.specs.Layout.{superblocksIn, startIn, sizeIn, superblocksOf, bitsStart, sizeOf, recordOf}
 use Rattle.image.specs.Chain.{labelAt, lengthAt, onesAt, goodLabel}
 use Rattle.image.specs.Rows.{rowBits, Right}
 use Rattle.image.specs.Calls.{goodPart}
-use Rattle.image.specs.Reading.{blockField, partField, onesSaid, valueSaid, Halved}
-use Rattle.image.proofs.PutLaws.{length-le}
-use Rattle.image.proofs.WriteLaws.{entry-lt, length-entries}
-use Rattle.image.proofs.NumberLaws.{bytes-bit, bits-bit, peel, inside, num-in}
-use Rattle.image.proofs.EntryLaws.{entry-before, entries-in}
+use Rattle.image.specs.Reading.{superblockField, blockField, entryOnes, Halved}
+use Rattle.image.proofs.WriteLaws.{record-total, record-entry, record-bit, rank-all}
+use Rattle.image.proofs.NumberLaws.{bytes-bit}
+use Rattle.image.proofs.EntryLaws.{entry-before}
 
--- ---- sizes, for blocks of bb bits and entries of eb bytes
+-- ---- sizes, for superblocks of bb bits and entries of eb bytes
 module _ (bb : ℕ) (pos : 0 < bb) (n : ℕ) where
-  -- the blocks hold n bits
-  pub blocks-cover : n ≤ bb * blocksIn bb n
-  blocks-cover = omega (arith, lt-mul-div-succ (n + (bb - 1)) pos, mul-add bb (blocksIn bb n) 1, mul-one bb)
+  -- the superblocks hold n bits
+  pub superblocks-cover : n ≤ bb * superblocksIn bb n
+  superblocks-cover = omega (arith, lt-mul-div-succ (n + (bb - 1)) pos, mul-add bb (superblocksIn bb n) 1, mul-one bb)
 
   -- the bytes of entry e lie before the bits
-  pub entry-inside : (eb e : ℕ) → e < blocksIn bb n → 16 + eb * e + eb ≤ startIn bb eb n
+  pub entry-inside : (eb e : ℕ) → e < superblocksIn bb n → 16 + eb * e + eb ≤ startIn bb eb n
   entry-inside eb e l = omega (arith, mul-le-mul-left eb l, mul-suc eb e)
 
   -- the first k bytes of bits lie in the record
-  pub bytes-inside : (eb c k : ℕ) → bb ≡ 8 * c → 8 * k ≤ bb * blocksIn bb n → startIn bb eb n + k ≤ sizeIn bb eb n
+  pub bytes-inside : (eb c k : ℕ) → bb ≡ 8 * c → 8 * k ≤ bb * superblocksIn bb n → startIn bb eb n + k ≤ sizeIn bb eb n
   bytes-inside eb c k e l =
       let d : bb / 8 ≡ c = ap (λ (x : ℕ). x / 8) e ∙ mul-div-cancel-left c (omega arith) in
-      let w : bb * blocksIn bb n ≡ 8 * (c * blocksIn bb n) = ap (λ (x : ℕ). x * blocksIn bb n) e ∙ mul-assoc 8 c (blocksIn bb n) in
-      let h : k ≤ c * blocksIn bb n = omega arith in
-      omega (arith, ap (λ (x : ℕ). x * blocksIn bb n) d)
+      let w : bb * superblocksIn bb n ≡ 8 * (c * superblocksIn bb n) = ap (λ (x : ℕ). x * superblocksIn bb n) e ∙ mul-assoc 8 c (superblocksIn bb n) in
+      let h : k ≤ c * superblocksIn bb n = omega arith in
+      omega (arith, ap (λ (x : ℕ). x * superblocksIn bb n) d)
 
 -- ---- the bits of a row
 module _ (part : List ℕ) (n : ℕ) where
@@ -74,96 +72,57 @@ module _ (part : List ℕ) (n : ℕ) where
       go (inl l) = omega (arith, row-cell p l, bit-le (getD part (bitsStart n + p / 8) 0) (p % 8))
       go (inr l) = omega (arith, row-past p l)
 
--- bytes of bits as a piece of a list
-pub bits-in : (s ys : List ℕ) (at : ℕ) (f : ℕ → ℕ) (n : ℕ) → ((p : ℕ) → f p ≤ 1) → drop at s ≡ bytesOf f n ++ ys
-    → (p : ℕ) → p < 8 * n → bitFrom s at p ≡ f p
-bits-in s ys at f n h e p l =
-    let byte : ℕ → ℕ = λ b. digits 2 (λ j. f (8 * b + j)) 8 in
-    let i : 8 * (p / 8) + p % 8 ≡ p = omega arith in
-    let b : p / 8 < n = omega arith in
-    ap (λ (x : ℕ). bit x (p % 8)) (inside s (bytesOf f n) ys at (p / 8) e (omega (arith, length-listOf byte n)) ∙ getD-listOf byte n (p / 8) b)
-    ∙ bits-bit (λ j. f (8 * (p / 8) + j)) 8 (p % 8) (λ j. h (8 * (p / 8) + j)) (omega arith)
-    ∙ ap f i
+-- ---- a row by its index
+-- the bits of a part from byte `start` on are f, of which n bits lie in `blocks` blocks of 512 bits; `told m` is the ones before block m
+pub record Indexed (part : List ℕ) (start blocks n : ℕ) (f told : ℕ → ℕ) : Type 0 where
+  pub cover : n ≤ 512 * blocks
+  pub small : (p : ℕ) → f p ≤ 1
+  pub before : (m : ℕ) → m < blocks → told m ≡ ones f (512 * m)
+  pub bits : (p : ℕ) → p < 512 * blocks → bitFrom part start p ≡ f p
 
--- ---- a record, place by place: the part is that of the n bits t
-pub record Recorded (part t : List ℕ) (n : ℕ) : Type 0 where
-  pub long : length part ≡ sizeOf n
-  pub size : lengthAt part 0 ≡ n
-  pub total : onesAt part 0 ≡ ones (cell t) n
-  pub entry : (e : ℕ) → e < blocksOf n → num part (16 + 16 * e) 16 ≡ entryOf (cell t) e
-  pub bits : (p : ℕ) → p < 4096 * blocksOf n → bitFrom part (bitsStart n) p ≡ cell t p
+-- of a right row: the number of its ones, and its index
+module _ (part : List ℕ) (n : ℕ) (short : n ≤ 134217728) (right : Right part n) where
+  -- its bits
+  abbrev t : List ℕ
+  t = rowBits part n
 
--- the record that is written for t is such a part
-pub recorded : (part t : List ℕ) (next label n : ℕ) → length t ≡ n → n ≤ 134217728 → ((p : ℕ) → cell t p ≤ 1) → part ≡ recordOf next label t → Recorded part t n
-unfolding recordOf
-recorded part t next label n len h b e =
-    let o : ℕ = ones (cell t) n in
-    let es : List ℕ = entriesFrom (cell t) 0 (blocksOf n) in
-    let bs : List ℕ = bytesOf (cell t) (512 * blocksOf n) in
-    let total : rank t 1 (length t) ≡ o =
-    ap (λ (m : ℕ). rankOf (cell t) 1 (min m m)) len ∙ ap (rankOf (cell t) 1) (same n) ∙ rank-ones (cell t) n b in
-    let whole : part ≡ le 4 next ++ (le 4 label ++ (le 4 n ++ (le 4 o ++ (es ++ bs)))) =
-    e ∙ ap₂ (λ (m x : ℕ). le 4 next ++ (le 4 label ++ (le 4 m ++ (le 4 x ++ (entriesFrom (cell t) 0 (blocksOf m) ++ bytesOf (cell t) (512 * blocksOf m)))))) len total in
-    let r1 : drop 4 part ≡ le 4 label ++ (le 4 n ++ (le 4 o ++ (es ++ bs))) =
-    peel part (le 4 next) (le 4 label ++ (le 4 n ++ (le 4 o ++ (es ++ bs)))) 0 4 (length-le 4 next) whole in
-    let r2 : drop 8 part ≡ le 4 n ++ (le 4 o ++ (es ++ bs)) = peel part (le 4 label) (le 4 n ++ (le 4 o ++ (es ++ bs))) 4 4 (length-le 4 label) r1 in
-    let r3 : drop 12 part ≡ le 4 o ++ (es ++ bs) = peel part (le 4 n) (le 4 o ++ (es ++ bs)) 8 4 (length-le 4 n) r2 in
-    let r4 : drop 16 part ≡ es ++ bs = peel part (le 4 o) (es ++ bs) 12 4 (length-le 4 o) r3 in
-    let l16 : length es ≡ 16 * blocksOf n = length-entries (cell t) 0 (blocksOf n) in
-    let r5 : drop (bitsStart n) part ≡ bs ++ [] = peel part es bs 16 (16 * blocksOf n) l16 r4 ∙ sym (append-nil bs) in
-    record {
-      long =
-          ap length whole ∙ length-append (le 4 next) (le 4 label ++ (le 4 n ++ (le 4 o ++ (es ++ bs))))
-          ∙ omega (
-            arith,
-            length-le 4 next,
-            length-append (le 4 label) (le 4 n ++ (le 4 o ++ (es ++ bs))),
-            length-le 4 label,
-            length-append (le 4 n) (le 4 o ++ (es ++ bs)),
-            length-le 4 n,
-            length-append (le 4 o) (es ++ bs),
-            length-le 4 o,
-            length-append es bs,
-            l16,
-            length-listOf (λ b. digits 2 (λ j. cell t (8 * b + j)) 8) (512 * blocksOf n),
-          );
-      size = num-in part (le 4 o ++ (es ++ bs)) 8 4 n (omega arith) r2;
-      total = num-in part (es ++ bs) 12 4 o (omega (arith, ones-le (cell t) n b)) r3;
-      entry =
-          (λ k l. entries-in part bs 16 (cell t) 0 (blocksOf n) (λ i q. entry-lt (cell t) (0 + i) b (omega arith)) r4 k l
-          ∙ ap (entryOf (cell t)) (none k));
-      bits = (λ p l. bits-in part [] (bitsStart n) (cell t) (512 * blocksOf n) b r5 p (omega arith));
-    }
-  where
-    same : (m : ℕ) → min m m ≡ m
-    same m = omega arith
+  long : length t ≡ n
+  long = row-length part n
 
-    none : (k : ℕ) → 0 + k ≡ k
-    none k = omega arith
+  -- a number in it
+  right-num : (at k : ℕ) → num part at k ≡ num (recordOf (num part 0 4) (num part 4 4) t) at k
+  right-num at k = ap (λ (l : List ℕ). num l at k) right
 
--- a right row's part is the record of its own bits
-pub right-recorded : (part : List ℕ) (n : ℕ) → n ≤ 134217728 → Right part n → Recorded part (rowBits part n) n
-right-recorded part n h e = recorded part (rowBits part n) (num part 0 4) (num part 4 4) n (row-length part n) h (row-le part n) e
+  pub right-total : onesAt part 0 ≡ ones (cell t) n
+  right-total =
+      right-num 12 4
+      ∙ record-total (num part 0 4) (num part 4 4) t (row-le part n) (omega (arith, long))
+      ∙ rank-all t (row-le part n)
+      ∙ ap (ones (cell t)) long
 
--- ---- what the entries and the bits of a record say
-module _ (part t : List ℕ) (n : ℕ) (short : n ≤ 134217728) (small : (p : ℕ) → cell t p ≤ 1) (r : Recorded part t n) where
-  -- the ones before part m
-  pub said-ones : (m : ℕ) → m < 8 * blocksOf n → onesSaid part m ≡ ones (cell t) (512 * m)
-  unfolding onesSaid
-  said-ones m l =
-      ap (λ (v : ℕ). blockField v + partField v (m % 8)) (r .entry (m / 8) (omega arith))
-      ∙ entry-before (cell t) m (omega (arith, ones-le (cell t) (4096 * (m / 8)) small)) small
+  -- the ones before block m, by the entry of its superblock
+  right-before : (m : ℕ) → m < 8 * superblocksOf n → entryOnes part m ≡ ones (cell t) (512 * m)
+  unfolding entryOnes
+  right-before m l =
+      ap (λ (v : ℕ). superblockField v + blockField v (m % 8))
+      (right-num (16 + 16 * (m / 8)) 16
+      ∙ record-entry (num part 0 4) (num part 4 4) t (row-le part n) (m / 8) (omega (arith, long)) (omega (arith, ap superblocksOf long)))
+      ∙ entry-before (cell t) m (omega (arith, ones-le (cell t) (4096 * (m / 8)) (row-le part n))) (row-le part n)
 
-  -- the number of v before part m
-  pub said-value : (v m : ℕ) → v ≤ 1 → m < 8 * blocksOf n → valueSaid part v m ≡ rankOf (cell t) v (512 * m)
-  said-value v m h l = ap (ofValue v (512 * m)) (said-ones m l) ∙ value-rank (cell t) v (512 * m) small h
+  -- the bits, padding too
+  pub right-bits : (p : ℕ) → p < 4096 * superblocksOf n → bitFrom part (bitsStart n) p ≡ cell t p
+  right-bits p l =
+      ap₂ (λ (x : List ℕ) (m : ℕ). bitFrom x (bitsStart m) p) right (sym long)
+      ∙ record-bit (num part 0 4) (num part 4 4) t (row-le part n) p (omega (arith, ap superblocksOf long))
 
-  -- the bits of part m
-  pub part-cell : (m p : ℕ) → m < 8 * blocksOf n → p < 512 → bitFrom part (bitsStart n + 64 * m) p ≡ cell t (512 * m + p)
-  part-cell m p l h =
-      let i : bitsStart n + 64 * m + p / 8 ≡ bitsStart n + (512 * m + p) / 8 = omega arith in
-      let j : p % 8 ≡ (512 * m + p) % 8 = omega arith in
-      ap₂ (λ (x y : ℕ). bit (getD part x 0) y) i j ∙ r .bits (512 * m + p) (omega arith)
+  pub right-indexed : Indexed part (bitsStart n) (8 * superblocksOf n) n (cell t) (entryOnes part)
+  right-indexed =
+      record {
+        cover = omega (arith, superblocks-cover 4096 (omega arith) n);
+        small = row-le part n;
+        before = right-before;
+        bits = λ p l. right-bits p (omega arith);
+      }
 
 -- words that are the numbers of eight bytes each have the bits of these bytes
 pub words-bit : (s block : List ℕ) (at : ℕ) → ((i : ℕ) → getD s i 0 < 256) → ((d : ℕ) → d < 8 → getD block d 0 ≡ num s (at + 8 * d) 8)
@@ -215,9 +174,9 @@ module _ (P : ℕ → ℕ) (end k : ℕ) where
             subst (λ (x : ℕ). (x < end) × Halved P end k x (x + 2 ^ (t - 1))) (sym m)
             (first, record { low = h .low; high = inr (subst (λ (x : ℕ). k < P (lo + x)) step (leb-false (P mid) k q)) })
 
--- from blocks to their parts
-pub halved-parts : (P : ℕ → ℕ) (end k b : ℕ) → Halved (λ i. P (8 * i)) ((end + 7) / 8) k b (b + 1) → Halved P end k (8 * b) (8 * b + 2 ^ 3)
-halved-parts P end k b h = record { low = go (h .low); high = up (h .high) }
+-- from superblocks to their blocks
+pub halved-blocks : (P : ℕ → ℕ) (end k b : ℕ) → Halved (λ i. P (8 * i)) ((end + 7) / 8) k b (b + 1) → Halved P end k (8 * b) (8 * b + 2 ^ 3)
+halved-blocks P end k b h = record { low = go (h .low); high = up (h .high) }
   where
     go : (b ≡ 0) ⊎ (P (8 * b) ≤ k) → (8 * b ≡ 0) ⊎ (P (8 * b) ≤ k)
     go (inl e) = inl (omega arith)
@@ -227,69 +186,66 @@ halved-parts P end k b h = record { low = go (h .low); high = up (h .high) }
     up (inl l) = inl (omega arith)
     up (inr l) = let e : 8 * (b + 1) ≡ 8 * b + 2 ^ 3 = omega arith in inr (subst (λ (x : ℕ). k < P x) e l)
 
--- ---- part m of a right row
-
 -- the bits of a row, zero past its length
 abbrev pub bitsOf : List ℕ → ℕ → ℕ → ℕ
 bitsOf part n = cell (rowBits part n)
 
-module _ (part : List ℕ) (n m : ℕ) (short : n ≤ 134217728) (right : Right part n) where
-  -- what its part holds
-  known : Recorded part (rowBits part n) n
-  known = right-recorded part n short right
+-- ---- block m of a row by its index, whatever its layout
+module _ (part : List ℕ) (start blocks n : ℕ) (f told : ℕ → ℕ) (x : Indexed part start blocks n f told) (m : ℕ) where
+  -- the number of v before it, as the index tells
+  told-value : (v i : ℕ) → v ≤ 1 → i < blocks → ofValue v (512 * i) (told i) ≡ rankOf f v (512 * i)
+  told-value v i h l = ap (ofValue v (512 * i)) (x .before i l) ∙ value-rank f v (512 * i) (x .small) h
 
-  -- the search comes to a part with at most k of v before it
-  pub said-le : (v k count : ℕ) → v ≤ 1 → m < 8 * blocksOf n → Halved (valueSaid part v) count k m (m + 1) → valueSaid part v m ≤ k
-  said-le v k count small inside h = go (h .low)
+  -- the search comes to a block with at most k of v before it
+  pub told-le : (v k count : ℕ) → v ≤ 1 → m < blocks → Halved (λ i. ofValue v (512 * i) (told i)) count k m (m + 1) → ofValue v (512 * m) (told m) ≤ k
+  told-le v k count small inside h = go (h .low)
     where
-      go : (m ≡ 0) ⊎ (valueSaid part v m ≤ k) → valueSaid part v m ≤ k
-      go (inl e) =
-          omega (arith, said-value part (rowBits part n) n short (row-le part n) known v m small inside, ap (λ (x : ℕ). rankOf (bitsOf part n) v (512 * x)) e, ones-zero (holds (bitsOf part n) v))
+      go : (m ≡ 0) ⊎ (ofValue v (512 * m) (told m) ≤ k) → ofValue v (512 * m) (told m) ≤ k
+      go (inl e) = omega (arith, told-value v m small inside, ap (λ (y : ℕ). rankOf f v (512 * y)) e, ones-zero (holds f v))
       go (inr l) = l
 
   -- and more than k before its end, where the row has more than k of v
-  pub said-above : (v k : ℕ) → v ≤ 1 → m < (n + 511) / 512 → Halved (valueSaid part v) ((n + 511) / 512) k m (m + 1) → k < rankOf (bitsOf part n) v n
-      → k < rankOf (bitsOf part n) v (512 * m + 512)
-  said-above v k small inside h few = go (lt-or (m + 1) ((n + 511) / 512)) (h .high)
+  pub told-above : (v k : ℕ) → v ≤ 1 → m < (n + 511) / 512 → Halved (λ i. ofValue v (512 * i) (told i)) ((n + 511) / 512) k m (m + 1) → k < rankOf f v n
+      → k < rankOf f v (512 * m + 512)
+  told-above v k small inside h few = go (lt-or (m + 1) ((n + 511) / 512)) (h .high)
     where
       e : 512 * (m + 1) ≡ 512 * m + 512
       e = omega arith
 
-      go : (m + 1 < (n + 511) / 512) ⊎ ((n + 511) / 512 ≤ m + 1) → ((n + 511) / 512 ≤ m + 1) ⊎ (k < valueSaid part v (m + 1))
-          → k < rankOf (bitsOf part n) v (512 * m + 512)
-      go (inr l) q = let le : n ≤ 512 * m + 512 = omega arith in omega (arith, ones-mono (holds (bitsOf part n) v) le)
+      go : (m + 1 < (n + 511) / 512) ⊎ ((n + 511) / 512 ≤ m + 1) → ((n + 511) / 512 ≤ m + 1) ⊎ (k < ofValue v (512 * (m + 1)) (told (m + 1)))
+          → k < rankOf f v (512 * m + 512)
+      go (inr l) q = let le : n ≤ 512 * m + 512 = omega arith in omega (arith, ones-mono (holds f v) le)
       go (inl l) (inl q) = absurd (omega arith)
-      go (inl l) (inr q) =
-          omega (arith, said-value part (rowBits part n) n short (row-le part n) known v (m + 1) small (omega arith), ap (rankOf (bitsOf part n) v) e)
+      go (inl l) (inr q) = omega (arith, told-value v (m + 1) small (omega (arith, x .cover)), ap (rankOf f v) e)
 
   -- its bits as eight words
-  module _ (block : List ℕ) (at : ℕ) (inside : m < 8 * blocksOf n) (start : at ≡ bitsStart n + 64 * m) (bits : (p : ℕ) → p < 512 → bitAt block p ≡ bitFrom part at p)
-    where
-      -- they are the row's
-      block-cell : (p : ℕ) → p < 512 → bitAt block p ≡ bitsOf part n (512 * m + p)
-      block-cell p l =
-          bits p l ∙ ap (λ (x : ℕ). bitFrom part x p) start ∙ part-cell part (rowBits part n) n short (row-le part n) known m p inside l
+  module _ (block : List ℕ) (at : ℕ) (inside : m < blocks) (there : at ≡ start + 64 * m) (bits : (p : ℕ) → p < 512 → bitAt block p ≡ bitFrom part at p) where
+    -- they are the row's
+    words-cell : (p : ℕ) → p < 512 → bitAt block p ≡ f (512 * m + p)
+    words-cell p l =
+        let i : at + p / 8 ≡ start + (512 * m + p) / 8 = omega arith in
+        let j : p % 8 ≡ (512 * m + p) % 8 = omega arith in
+        bits p l ∙ ap₂ (λ (y z : ℕ). bit (getD part y 0) z) i j ∙ x .bits (512 * m + p) (omega arith)
 
-      -- the ones before a position in it
-      pub ones-there : (k : ℕ) → k ≤ 512 → onesSaid part m + ones (bitAt block) k ≡ ones (bitsOf part n) (512 * m + k)
-      ones-there k l =
-          ap (λ (x : ℕ). x + ones (bitAt block) k) (said-ones part (rowBits part n) n short (row-le part n) known m inside)
-          ∙ sym (part-ones (bitsOf part n) (bitAt block) (512 * m) 512 k block-cell l)
+    -- the ones before a position in it
+    pub ones-there : (k : ℕ) → k ≤ 512 → told m + ones (bitAt block) k ≡ ones f (512 * m + k)
+    ones-there k l =
+        ap (λ (y : ℕ). y + ones (bitAt block) k) (x .before m inside)
+        ∙ sym (part-ones f (bitAt block) (512 * m) 512 k words-cell l)
 
-      -- the position of the k-th v
-      pub place-there : (v k p : ℕ) → v ≤ 1 → valueSaid part v m ≤ k → k < rankOf (bitsOf part n) v (512 * m + 512) → k < rankOf (bitsOf part n) v n
-          → p ≡ placeIn 512 (selectOf (bitAt block) 512 v (k - valueSaid part v m))
-          → (p < 512) × (512 * m + p < n) × (512 * m + p ≡ placeIn n (selectOf (bitsOf part n) n v k))
-      place-there v k p small low high few e =
-          let top : ℕ = 4096 * blocksOf n in
-          let said : valueSaid part v m ≡ rankOf (bitsOf part n) v (512 * m) = said-value part (rowBits part n) n short (row-le part n) known v m small inside in
-          let more : rankOf (bitsOf part n) v (512 * m + 512) ≡ rankOf (bitsOf part n) v (512 * m) + rankOf (bitAt block) v 512 =
-          rank-part (bitsOf part n) (bitAt block) (512 * m) 512 v 512 block-cell (le-refl 512) in
-          let there = part-select (bitsOf part n) (bitAt block) (512 * m) 512 top v k (k - valueSaid part v m) p block-cell (omega arith) (omega arith) (omega arith) e in
-          let w = select-exists (bitsOf part n) n v k few in
-          let q : 512 * m + p ≡ w .0 =
-          there .1 ∙ ap (placeIn top) (select-longer (bitsOf part n) n top v k (blocks-cover 4096 (omega arith) n) few ∙ w .1) in
-          (there .0, omega (arith, select-place (bitsOf part n) n v k (w .0) (w .1) .below), q ∙ sym (ap (placeIn n) (w .1)))
+    -- the position of the k-th v
+    pub place-there : (v k p : ℕ) → v ≤ 1 → ofValue v (512 * m) (told m) ≤ k → k < rankOf f v (512 * m + 512) → k < rankOf f v n
+        → p ≡ placeIn 512 (selectOf (bitAt block) 512 v (k - ofValue v (512 * m) (told m)))
+        → (p < 512) × (512 * m + p < n) × (512 * m + p ≡ placeIn n (selectOf f n v k))
+    place-there v k p small low high few e =
+        let top : ℕ = 512 * blocks in
+        let said : ofValue v (512 * m) (told m) ≡ rankOf f v (512 * m) = told-value v m small inside in
+        let more : rankOf f v (512 * m + 512) ≡ rankOf f v (512 * m) + rankOf (bitAt block) v 512 =
+        rank-part f (bitAt block) (512 * m) 512 v 512 words-cell (le-refl 512) in
+        let there = part-select f (bitAt block) (512 * m) 512 top v k (k - ofValue v (512 * m) (told m)) p words-cell (omega arith) (omega arith) (omega arith) e in
+        let w = select-exists f n v k few in
+        let q : 512 * m + p ≡ w .0 = there .1 ∙ ap (placeIn top) (select-longer f n top v k (x .cover) few ∙ w .1) in
+        (there .0, omega (arith, select-place f n v k (w .0) (w .1) .below), q ∙ sym (ap (placeIn n) (w .1)))
 
 -- ---- what the check of a part leaves
 pub good-part : (part : List ℕ) (n : ℕ) → goodPart part n ≡ true → (16 ≤ length part) × (length part ≡ sizeOf n) × (n ≤ 134217728)
@@ -319,6 +275,14 @@ good-part part n h =
     b5 : Bool
     b5 = eqb n (lengthAt part 0)
 
+-- and the length held is the record's
+pub good-length : (part : List ℕ) (n : ℕ) → goodPart part n ≡ true → n ≡ lengthAt part 0
+unfolding goodPart
+good-length part n h =
+    eqb-true n (lengthAt part 0)
+    (and-second (eqb (length part) (sizeOf (lengthAt part 0))) _
+    (and-second (leb (lengthAt part 0) 134217728) _ (and-second (goodLabel (labelAt part 0)) _ (and-second (leb 16 (length part)) _ h))))
+
 -- ---- count, where a call's table passes: x is what the entry and the bits say
 module _ (t : List Line) (part : List ℕ) (n v i x : ℕ) (pass : judge t ≡ none) (small : v ≤ 1) (within : i ≤ n)
     (counted : Right part n → x ≡ ones (bitsOf part n) i) where
@@ -328,24 +292,33 @@ module _ (t : List Line) (part : List ℕ) (n v i x : ℕ) (pass : judge t ≡ n
 
   -- at most i ones before position i: the number of v
   pub rank-done : (r : ℕ) → x ≤ i → r ≡ ofValue v i x
-      → Promise Told (judge t) refused (value (rank (rowBits part n) v i)) (Right part n) (AtMost 15 n) (value r)
+      → Promise Told (judge t) refused (value (rank (rowBits part n) v i)) (Right part n) (AtMost 15 i) (value r)
   rank-done r le e =
-      promise-passed t refused (value (rank (rowBits part n) v i)) (Right part n) (AtMost 15 n) (value r) pass
+      promise-passed t refused (value (rank (rowBits part n) v i)) (Right part n) (AtMost 15 i) (value r) pass
       (λ right. ap value (e ∙ ap (ofValue v i) (counted right) ∙ value-rank (bitsOf part n) v i (row-le part n) small ∙ sym row-rank))
       (AtMost.is r (omega (arith, e, value-le v i x le)))
 
   -- more than i: no right row
-  pub rank-wrong : i < x → Promise Told (judge t) refused (value (rank (rowBits part n) v i)) (Right part n) (AtMost 15 n) (refused 15)
+  pub rank-wrong : i < x → Promise Told (judge t) refused (value (rank (rowBits part n) v i)) (Right part n) (AtMost 15 i) (refused 15)
   rank-wrong l =
-      promise-passed t refused (value (rank (rowBits part n) v i)) (Right part n) (AtMost 15 n) (refused 15) pass
+      promise-passed t refused (value (rank (rowBits part n) v i)) (Right part n) (AtMost 15 i) (refused 15) pass
       (λ right. absurd (omega (arith, counted right, ones-le (bitsOf part n) i (row-le part n))))
       AtMost.unfit
+
+-- ---- find, where a call's table passes and k is not below the length: no such stroke, whatever the entries are
+pub select-beyond : (t : List Line) (part : List ℕ) (n v k : ℕ) → judge t ≡ none → n ≤ k
+    → Promise Told (judge t) refused (found (select (rowBits part n) v k)) (Right part n) (Below 15 n) (refused 6)
+select-beyond t part n v k pass l =
+    promise-passed t refused (found (select (rowBits part n) v k)) (Right part n) (Below 15 n) (refused 6) pass
+    (λ right. sym (ap found
+    (ap (λ (m : ℕ). selectOf (bitsOf part n) m v k) (row-length part n) ∙ select-none (bitsOf part n) n v k (omega (arith, rank-le (bitsOf part n) v n)))))
+    Below.absent
 
 -- ---- find, where a call's table passes: x is the number of ones that the record says
 module _ (t : List Line) (part : List ℕ) (n v k x : ℕ) (pass : judge t ≡ none) (small : v ≤ 1) (short : n ≤ 134217728) (said : x ≡ onesAt part 0) where
   -- of a right row, that of its bits
   total-is : Right part n → x ≡ ones (bitsOf part n) n
-  total-is right = said ∙ right-recorded part n short right .total
+  total-is right = said ∙ right-total part n short right
 
   -- and the number of v is count(v, n)
   number-is : Right part n → ofValue v n x ≡ rankOf (bitsOf part n) v n

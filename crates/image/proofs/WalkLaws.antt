@@ -15,8 +15,8 @@ use Rattle.image.specs.declared.chain.Scan.the-variants.{Unsound, Sound}
 use Rattle.image.specs.Bytes.{num}
 use Rattle.image.specs.Layout.{unitBytes, mostLabel}
 use Rattle.image.specs.Chain.{nextAt, labelAt, endAt, soundHeader, soundRecord, among, inFront, chainOf, placeOf, endOf, linkOf}
-use Rattle.image.specs.Calls.{recordsIn, recordsOf, recordWith, placeIs}
-use Rattle.image.specs.Walk.{toldBy, scanOf}
+use Rattle.image.specs.Calls.{recordsIn, recordsOf, recordWith, rowPlace}
+use Rattle.image.specs.Walk.{scanned, scanOf}
 use Rattle.image.proofs.ChainLaws.{record-facts, restFrom, rest-end, rest-unsound, rest-more, chain-rest, among-first, among-rest, place-append, link-last, end-last, chain-facts, place-found, found-placed}
 
 -- the records walked, and then others
@@ -203,13 +203,13 @@ pub record ScanFacts (s : List ℕ) (label link end found : ℕ) : Type 0 where
   pub chain : chainOf s ≡ some (recordsOf s)
   pub linked : link ≡ linkOf (recordsOf s)
   pub ended : end ≡ endOf s (recordsOf s)
-  pub placed : found ≡ placeIs s label
+  pub placed : found ≡ rowPlace s label
 
 -- a scan that is told sound
 pub scan-facts : (s : List ℕ) (label link end found : ℕ) → Sound link end found ≡ scanOf s label → ScanFacts s label link end found
 scan-facts s label link end found e = go (chainOf s) refl e
   where
-    go : (o : Option (List ℕ)) → chainOf s ≡ o → Sound link end found ≡ toldBy s label o → ScanFacts s label link end found
+    go : (o : Option (List ℕ)) → chainOf s ≡ o → Sound link end found ≡ scanned s label o → ScanFacts s label link end found
     go none p q = let z : _≡_ {A = ℕ} 0 1 = cc in absurd (omega arith)
     go (some rs) p q =
         let r : recordsOf s ≡ rs = ap recordsIn p in
@@ -224,7 +224,7 @@ scan-facts s label link end found e = go (chainOf s) refl e
 pub scan-none : (s : List ℕ) (label : ℕ) → Unsound ≡ scanOf s label → chainOf s ≡ none
 scan-none s label e = go (chainOf s) refl e
   where
-    go : (o : Option (List ℕ)) → chainOf s ≡ o → Unsound ≡ toldBy s label o → chainOf s ≡ none
+    go : (o : Option (List ℕ)) → chainOf s ≡ o → Unsound ≡ scanned s label o → chainOf s ≡ none
     go none p q = p
     go (some rs) p q = let z : _≡_ {A = ℕ} 0 1 = cc in absurd (omega arith)
 

@@ -13,18 +13,17 @@ use lib.ListN.{length, set, drop, getD, length-set, length-append, List·getD-ap
 use lib.Seq.{sets, length-sets, ext-getD, getD-set-same, getD-set-other, drop-drop, drop-append-seam, getD-drop}
 use Rattle.words.specs.Bits.{bit, bitAt, ones, digits, listOf}
 use Rattle.words.specs.Strip.{cell, stripOf, rank, rankOf}
-use Rattle.words.proofs.Sums.{lt-or, ones-zero, ones-split, ones-ext, ones-le, length-listOf, getD-listOf, ones-const}
+use Rattle.words.proofs.Sums.{lt-or, ones-zero, ones-split, ones-ext, ones-le, length-listOf, getD-listOf, ones-const, set-more}
 use Rattle.words.proofs.BitLaws.{bit-shr, bit-mod, bit-high}
 use Rattle.words.proofs.WordLaws.{word-bit, bitAt-le}
 use Rattle.words.proofs.DigitLaws.{field, digits-ext, digits-at, digits-of}
 use Rattle.words.proofs.SearchLaws.{rank-ones}
 use Rattle.words.proofs.StripLaws.{strip-cell, strip-length}
-use Rattle.counters.proofs.SpliceLaws.{set-more}
 use Rattle.image.specs.Bytes.{num, le, bitFrom}
-use Rattle.image.specs.Layout.{blocksOf, bitsStart, sizeOf, entryOf, entriesFrom, bytesOf, recordOf, kind}
+use Rattle.image.specs.Layout.{superblocksOf, bitsStart, sizeOf, superblockEntry, entryOf, entriesFrom, bytesOf, recordOf, kind}
 use Rattle.image.specs.Rows.{rowBits, Right}
 use Rattle.image.specs.Chain.{headerOf}
-use Rattle.image.specs.Writing.{wordBits, BitsPut, blockEntry, BlockPut, RowPut}
+use Rattle.image.specs.Writing.{wordBits, BitsPut, SuperblockPut, RowPut}
 use Rattle.image.proofs.PutLaws.{length-le, le-small, num-of, sets-join, sets-comm, sets-front, put-join}
 
 -- ---- lists by their elements
@@ -179,6 +178,10 @@ piece-at s xs ys at i e h = sym (getD-drop at s i 0) ∙ ap (λ (l : List ℕ). 
 pub piece-num : (s ys : List ℕ) (at n v : ℕ) → drop at s ≡ le n v ++ ys → num s at n ≡ v % 256 ^ n
 piece-num s ys at n v e = num-of s at n v (λ i l. piece-at s (le n v) ys at i e (omega (arith, length-le n v)))
 
+-- that fits in its bytes
+pub piece-small : (s ys : List ℕ) (at n v : ℕ) → v < 256 ^ n → drop at s ≡ le n v ++ ys → num s at n ≡ v
+piece-small s ys at n v h e = piece-num s ys at n v e ∙ mod-eq-of-lt h
+
 -- an entry among entries
 pub piece-entry : (s ys : List ℕ) (at : ℕ) (f : ℕ → ℕ) (n e : ℕ) → drop at s ≡ entriesFrom f 0 n ++ ys → e < n → num s (at + 16 * e) 16 ≡ entryOf f e % 2 ^ 128
 piece-entry s ys at f n e h l =
@@ -252,10 +255,10 @@ module _ (x l : ℕ) (t : List ℕ) where
   r = recordOf x l t
 
   abbrev es : List ℕ
-  es = entriesFrom (cell t) 0 (blocksOf (length t))
+  es = entriesFrom (cell t) 0 (superblocksOf (length t))
 
   abbrev bs : List ℕ
-  bs = bytesOf (cell t) (512 * blocksOf (length t))
+  bs = bytesOf (cell t) (512 * superblocksOf (length t))
 
   abbrev total : ℕ
   total = rank t 1 (length t)
@@ -268,6 +271,11 @@ module _ (x l : ℕ) (t : List ℕ) where
   from-4 : drop 4 r ≡ le 4 l ++ (le 4 (length t) ++ (le 4 total ++ (es ++ bs)))
   from-4 = piece-after r (le 4 x) (le 4 l ++ (le 4 (length t) ++ (le 4 total ++ (es ++ bs)))) 0 4 4 (length-le 4 x) from-0 refl
 
+  -- with another next index in front
+  pub record-front : (y : ℕ) → recordOf y l t ≡ le 4 y ++ drop 4 r
+  unfolding recordOf
+  record-front y = ap (λ (z : List ℕ). le 4 y ++ z) (sym from-4)
+
   from-8 : drop 8 r ≡ le 4 (length t) ++ (le 4 total ++ (es ++ bs))
   from-8 = piece-after r (le 4 l) (le 4 (length t) ++ (le 4 total ++ (es ++ bs))) 4 4 8 (length-le 4 l) from-4 refl
 
@@ -279,7 +287,7 @@ module _ (x l : ℕ) (t : List ℕ) where
 
   from-bits : drop (bitsStart (length t)) r ≡ bs ++ []
   from-bits =
-      piece-after r es bs 16 (16 * blocksOf (length t)) (bitsStart (length t)) (length-entries (cell t) 0 (blocksOf (length t))) from-16 refl
+      piece-after r es bs 16 (16 * superblocksOf (length t)) (bitsStart (length t)) (length-entries (cell t) 0 (superblocksOf (length t))) from-16 refl
       ∙ sym (append-nil bs)
 
   -- its size
@@ -297,8 +305,8 @@ module _ (x l : ℕ) (t : List ℕ) where
         length-append (le 4 total) (es ++ bs),
         length-le 4 total,
         length-append es bs,
-        length-entries (cell t) 0 (blocksOf (length t)),
-        length-bytes (cell t) (512 * blocksOf (length t)),
+        length-entries (cell t) 0 (superblocksOf (length t)),
+        length-bytes (cell t) (512 * superblocksOf (length t)),
       )
 
   -- its four numbers
@@ -325,13 +333,13 @@ module _ (x l : ℕ) (t : List ℕ) where
     record-total h = record-ones ∙ mod-eq-of-lt (omega (arith, rank-all t bits, ones-le (cell t) (length t) bits))
 
     -- entry e
-    pub record-entry : (e : ℕ) → length t ≤ 134217728 → e < blocksOf (length t) → num r (16 + 16 * e) 16 ≡ entryOf (cell t) e
+    pub record-entry : (e : ℕ) → length t ≤ 134217728 → e < superblocksOf (length t) → num r (16 + 16 * e) 16 ≡ entryOf (cell t) e
     record-entry e h k =
-        piece-entry r bs 16 (cell t) (blocksOf (length t)) e from-16 k ∙ mod-eq-of-lt (entry-lt (cell t) e bits (omega arith))
+        piece-entry r bs 16 (cell t) (superblocksOf (length t)) e from-16 k ∙ mod-eq-of-lt (entry-lt (cell t) e bits (omega arith))
 
     -- the bit at position p, padding too
-    pub record-bit : (p : ℕ) → p < 4096 * blocksOf (length t) → bitFrom r (bitsStart (length t)) p ≡ cell t p
-    record-bit p h = piece-bit r [] (bitsStart (length t)) (cell t) (512 * blocksOf (length t)) p bits from-bits (omega arith)
+    pub record-bit : (p : ℕ) → p < 4096 * superblocksOf (length t) → bitFrom r (bitsStart (length t)) p ≡ cell t p
+    record-bit p h = piece-bit r [] (bitsStart (length t)) (cell t) (512 * superblocksOf (length t)) p bits from-bits (omega arith)
 
     -- the row's bits are those written
     pub record-bits : rowBits r (length t) ≡ t
@@ -355,7 +363,7 @@ module _ (x l : ℕ) (t : List ℕ) where
         (append-small (le 4 l) _ (le-small 4 l)
         (append-small (le 4 (length t)) _ (le-small 4 (length t))
         (append-small (le 4 total) _ (le-small 4 total)
-        (append-small es bs (entries-small (cell t) 0 (blocksOf (length t))) (λ i. bytes-small (cell t) (512 * blocksOf (length t)) i bits)))))
+        (append-small es bs (entries-small (cell t) 0 (superblocksOf (length t))) (λ i. bytes-small (cell t) (512 * superblocksOf (length t)) i bits)))))
 
 -- ---- a word of a strip
 module _ (ws : List ℕ) (n w p : ℕ) where
@@ -444,37 +452,37 @@ module _ (g : ℕ → ℕ) (at : ℕ) (s : List ℕ) where
   pub bits-size : (t : List ℕ) (m n r : ℕ) → BitsPut g m at s t r → m ≡ n → BitsPut g n at s t r
   bits-size t m n r x e = subst (λ (k : ℕ). BitsPut g k at s t r) e x
 
--- one word more of a part
-pub part-word : (part : List ℕ) (at : ℕ) (s t u : List ℕ) (j r q : ℕ) → BitsPut (bitAt part) (8 * j) at s t r → u ≡ sets t (at + 8 * j) (le 8 (getD part j 0))
-    → q ≡ ones (bit (getD part j 0)) 64 → BitsPut (bitAt part) (8 * (j + 1)) at s u (r + q)
-part-word part at s t u j r q w e c =
-    bits-more (bitAt part) at s t u (8 * j) 8 (8 * (j + 1)) r q w
-    (bits-word (λ p. bitAt part (8 * (8 * j) + p)) (at + 8 * j) t u (getD part j 0) q e
-    (λ p l. sym (ap (bitAt part) (place p) ∙ word-bit part j p l)) c)
+-- one word more of a block
+pub block-word : (block : List ℕ) (at : ℕ) (s t u : List ℕ) (j r q : ℕ) → BitsPut (bitAt block) (8 * j) at s t r → u ≡ sets t (at + 8 * j) (le 8 (getD block j 0))
+    → q ≡ ones (bit (getD block j 0)) 64 → BitsPut (bitAt block) (8 * (j + 1)) at s u (r + q)
+block-word block at s t u j r q w e c =
+    bits-more (bitAt block) at s t u (8 * j) 8 (8 * (j + 1)) r q w
+    (bits-word (λ p. bitAt block (8 * (8 * j) + p)) (at + 8 * j) t u (getD block j 0) q e
+    (λ p l. sym (ap (bitAt block) (place p) ∙ word-bit block j p l)) c)
     (omega arith)
   where
     place : (p : ℕ) → 8 * (8 * j) + p ≡ 64 * j + p
     place p = omega arith
 
--- ---- a block stored part by part, with the ones up to each part's end
-pub record Parts (g : ℕ → ℕ) (at : ℕ) (s t counts : List ℕ) (sum j : ℕ) : Type 0 where
+-- ---- a superblock stored block by block, with the ones up to each block's end
+pub record Blocks (g : ℕ → ℕ) (at : ℕ) (s t counts : List ℕ) (sum j : ℕ) : Type 0 where
   pub within : j ≤ 8
   pub long : length counts ≡ 8
   pub put : BitsPut g (64 * j) at s t sum
   pub ends : (i : ℕ) → i < j → getD counts i 0 ≡ ones g (512 * (i + 1))
 
 -- nothing is stored yet
-pub parts-none : (g : ℕ → ℕ) (at : ℕ) (s counts : List ℕ) → length counts ≡ 8 → Parts g at s s counts 0 0
-parts-none g at s counts h = record { within = omega arith; long = h; put = bits-none g at s; ends = (λ i l. absurd (omega arith)) }
+pub blocks-none : (g : ℕ → ℕ) (at : ℕ) (s counts : List ℕ) → length counts ≡ 8 → Blocks g at s s counts 0 0
+blocks-none g at s counts h = record { within = omega arith; long = h; put = bits-none g at s; ends = (λ i l. absurd (omega arith)) }
 
--- one part more, of eight words
-pub parts-more : (ws : List ℕ) (w at : ℕ) (s t u counts part : List ℕ) (sum j q : ℕ) → Parts (wordBits ws w) at s t counts sum j → j < 8
-    → ((i : ℕ) → i < 8 → getD part i 0 ≡ getD ws (w + 8 * j + i) 0) → BitsPut (bitAt part) 64 (at + 64 * j) t u q
-    → Parts (wordBits ws w) at s u (set counts j (sum + q)) (sum + q) (j + 1)
-parts-more ws w at s t u counts part sum j q x h words b =
+-- one block more, of eight words
+pub blocks-more : (ws : List ℕ) (w at : ℕ) (s t u counts block : List ℕ) (sum j q : ℕ) → Blocks (wordBits ws w) at s t counts sum j → j < 8
+    → ((i : ℕ) → i < 8 → getD block i 0 ≡ getD ws (w + 8 * j + i) 0) → BitsPut (bitAt block) 64 (at + 64 * j) t u q
+    → Blocks (wordBits ws w) at s u (set counts j (sum + q)) (sum + q) (j + 1)
+blocks-more ws w at s t u counts block sum j q x h words b =
     let g : ℕ → ℕ = wordBits ws w in
     let put : BitsPut g (64 * (j + 1)) at s u (sum + q) =
-    bits-more g at s t u (64 * j) 64 (64 * (j + 1)) sum q (x .put) (bits-ext (λ p. g (8 * (64 * j) + p)) (at + 64 * j) t (bitAt part) u 64 q b same) (omega arith) in
+    bits-more g at s t u (64 * j) 64 (64 * (j + 1)) sum q (x .put) (bits-ext (λ p. g (8 * (64 * j) + p)) (at + 64 * j) t (bitAt block) u 64 q b same) (omega arith) in
     record {
       within = omega arith;
       long = length-set counts j (sum + q) ∙ x .long;
@@ -485,18 +493,18 @@ parts-more ws w at s t u counts part sum j q x h words b =
     whole : 8 * (64 * (j + 1)) ≡ 512 * (j + 1)
     whole = omega arith
 
-    same : (p : ℕ) → p < 8 * 64 → bitAt part p ≡ wordBits ws w (8 * (64 * j) + p)
+    same : (p : ℕ) → p < 8 * 64 → bitAt block p ≡ wordBits ws w (8 * (64 * j) + p)
     same p l =
-        words-bits (λ p. wordBits ws w (8 * (64 * j) + p)) part 8 p
+        words-bits (λ p. wordBits ws w (8 * (64 * j) + p)) block 8 p
         (λ i k y z.
         let e : 64 * (w + 8 * j + i) + y ≡ 64 * w + (8 * (64 * j) + (64 * i + y)) = omega arith in
         ap (λ (v : ℕ). bit v y) (words i k) ∙ sym (word-bit ws (w + 8 * j + i) y z) ∙ ap (bitAt ws) e)
         l
 
 -- all eight are stored
-pub parts-done : (g : ℕ → ℕ) (at : ℕ) (s t counts : List ℕ) (sum j : ℕ) → Parts g at s t counts sum j → 8 ≤ j
+pub blocks-done : (g : ℕ → ℕ) (at : ℕ) (s t counts : List ℕ) (sum j : ℕ) → Blocks g at s t counts sum j → 8 ≤ j
     → (t ≡ sets s at (bytesOf g 512)) × (length counts ≡ 8) × ((i : ℕ) → i < 8 → getD counts i 0 ≡ ones g (512 * (i + 1)))
-parts-done g at s t counts sum j x h =
+blocks-done g at s t counts sum j x h =
     let e : 64 * j ≡ 512 = omega (arith, x .within) in
     (bits-size g at s t (64 * j) 512 sum (x .put) e .same, x .long, λ i l. x .ends i (omega arith))
 
@@ -508,17 +516,17 @@ digits-seven b g =
     let e : g 6 + b * 0 ≡ g 6 = omega (arith, mul-zero b) in
     ap (λ (x : ℕ). g 0 + b * (g 1 + b * (g 2 + b * (g 3 + b * (g 4 + b * (g 5 + b * x)))))) e
 
--- the ones before the block, then seven digits
+-- the ones before the superblock, then seven digits
 pub entry-is : (g : ℕ → ℕ) (w sum : ℕ) → w ≡ sum + 2 ^ 44 * (g 0 + 4096 * (g 1 + 4096 * (g 2 + 4096 * (g 3 + 4096 * (g 4 + 4096 * (g 5 + 4096 * g 6))))))
     → w ≡ sum + 2 ^ 44 * digits (2 ^ 12) g 7
 entry-is g w sum h = h ∙ ap (λ (d : ℕ). sum + 2 ^ 44 * d) (sym (digits-seven (2 ^ 12) g))
 
--- ---- a block stored: its entry in two halves, its bits through the scratch array
-pub block-stored : (g : ℕ → ℕ) (sum a b low high : ℕ) (s s1 s2 s3 bytes counts : List ℕ) → bytes ≡ bytesOf g 512
+-- ---- a superblock stored: its entry in two halves, its bits through the scratch array
+pub superblock-stored : (g : ℕ → ℕ) (sum a b low high : ℕ) (s s1 s2 s3 bytes counts : List ℕ) → bytes ≡ bytesOf g 512
     → ((j : ℕ) → j < 8 → getD counts j 0 ≡ ones g (512 * (j + 1))) → low + 2 ^ 64 * high ≡ sum + 2 ^ 44 * digits (2 ^ 12) (λ j. getD counts j 0) 7 → low < 2 ^ 64
-    → s1 ≡ sets s a (le 8 low) → s2 ≡ sets s1 (a + 8) (le 8 high) → s3 ≡ sets s2 b bytes → BlockPut g sum a b s s3 (sum + getD counts 7 0)
-block-stored g sum a b low high s s1 s2 s3 bytes counts is ends entry small h1 h2 h3 =
-    let word : low + 2 ^ 64 * high ≡ blockEntry g sum =
+    → s1 ≡ sets s a (le 8 low) → s2 ≡ sets s1 (a + 8) (le 8 high) → s3 ≡ sets s2 b bytes → SuperblockPut g sum a b s s3 (sum + getD counts 7 0)
+superblock-stored g sum a b low high s s1 s2 s3 bytes counts is ends entry small h1 h2 h3 =
+    let word : low + 2 ^ 64 * high ≡ superblockEntry g sum =
     entry ∙ ap (λ (d : ℕ). sum + 2 ^ 44 * d) (digits-ext (2 ^ 12) (λ j. getD counts j 0) (λ j. ones g (512 * (j + 1))) 7 (λ j l. ends j (omega arith))) in
     record {
       same =
@@ -529,9 +537,9 @@ block-stored g sum a b low high s s1 s2 s3 bytes counts is ends entry small h1 h
     }
 
 -- equal bits
-pub block-ext : (f g : ℕ → ℕ) (sum a b : ℕ) (s t : List ℕ) (r : ℕ) → BlockPut f sum a b s t r → ((p : ℕ) → p < 4096 → f p ≡ g p) → BlockPut g sum a b s t r
-block-ext f g sum a b s t r x h =
-    let entry : blockEntry f sum ≡ blockEntry g sum =
+pub superblock-ext : (f g : ℕ → ℕ) (sum a b : ℕ) (s t : List ℕ) (r : ℕ) → SuperblockPut f sum a b s t r → ((p : ℕ) → p < 4096 → f p ≡ g p) → SuperblockPut g sum a b s t r
+superblock-ext f g sum a b s t r x h =
+    let entry : superblockEntry f sum ≡ superblockEntry g sum =
     ap (λ (d : ℕ). sum + 2 ^ 44 * d)
     (digits-ext (2 ^ 12) (λ j. ones f (512 * (j + 1))) (λ j. ones g (512 * (j + 1))) 7 (λ j l. ones-ext f g (512 * (j + 1)) (λ p q. h p (omega arith)))) in
     record {
@@ -540,23 +548,23 @@ block-ext f g sum a b s t r x h =
     }
 
 -- the length stays
-pub block-length : (g : ℕ → ℕ) (sum a b : ℕ) (s t : List ℕ) (r : ℕ) → BlockPut g sum a b s t r → length t ≡ length s
-block-length g sum a b s t r x =
-    ap length (x .same) ∙ length-sets (sets s a (le 16 (blockEntry g sum))) b (bytesOf g 512) ∙ length-sets s a (le 16 (blockEntry g sum))
+pub superblock-length : (g : ℕ → ℕ) (sum a b : ℕ) (s t : List ℕ) (r : ℕ) → SuperblockPut g sum a b s t r → length t ≡ length s
+superblock-length g sum a b s t r x =
+    ap length (x .same) ∙ length-sets (sets s a (le 16 (superblockEntry g sum))) b (bytesOf g 512) ∙ length-sets s a (le 16 (superblockEntry g sum))
 
--- ---- blocks stored one after another
+-- ---- superblocks stored one after another
 -- nothing is stored yet
 pub row-none : (f : ℕ → ℕ) (a b : ℕ) (s : List ℕ) → RowPut f 0 a b s s 0
 unfolding entriesFrom listOf
 row-none f a b s = record { same = refl; count = sym (ones-zero f) }
 
--- an entry by its own block
-entry-block : (f : ℕ → ℕ) (e : ℕ) → blockEntry (λ p. f (4096 * e + p)) (ones f (4096 * e)) ≡ entryOf f e
+-- an entry by its own superblock
+entry-superblock : (f : ℕ → ℕ) (e : ℕ) → superblockEntry (λ p. f (4096 * e + p)) (ones f (4096 * e)) ≡ entryOf f e
 unfolding entryOf
-entry-block f e = refl
+entry-superblock f e = refl
 
--- one block more
-pub row-more : (f : ℕ → ℕ) (e a b : ℕ) (s t u : List ℕ) (sum r : ℕ) → RowPut f e a b s t sum → BlockPut (λ p. f (4096 * e + p)) sum (a + 16 * e) (b + 512 * e) t u r
+-- one superblock more
+pub row-more : (f : ℕ → ℕ) (e a b : ℕ) (s t u : List ℕ) (sum r : ℕ) → RowPut f e a b s t sum → SuperblockPut (λ p. f (4096 * e + p)) sum (a + 16 * e) (b + 512 * e) t u r
     → a + 16 * (e + 1) ≤ b → RowPut f (e + 1) a b s u r
 row-more f e a b s t u sum r x y far =
     let g : ℕ → ℕ = λ p. f (4096 * e + p) in
@@ -564,7 +572,7 @@ row-more f e a b s t u sum r x y far =
     let B : List ℕ = bytesOf g 512 in
     let ES : List ℕ = entriesFrom f 0 e in
     let BS : List ℕ = bytesOf f (512 * e) in
-    let entry : blockEntry g sum ≡ entryOf f e = ap (blockEntry g) (x .count) ∙ entry-block f e in
+    let entry : superblockEntry g sum ≡ entryOf f e = ap (superblockEntry g) (x .count) ∙ entry-superblock f e in
     let z : 0 + e ≡ e = omega arith in
     let entries : ES ++ E ≡ entriesFrom f 0 (e + 1) =
     sym (entries-append f 0 e 1 ∙ ap (λ (l : List ℕ). ES ++ l) (ap (λ (k : ℕ). entriesFrom f k 1) z ∙ entries-one f e)) in
@@ -595,7 +603,7 @@ row-length f k a b s t r x =
 pub row-le : (f : ℕ → ℕ) (k a b : ℕ) (s t : List ℕ) (r : ℕ) → RowPut f k a b s t r → ((p : ℕ) → f p ≤ 1) → r ≤ 4096 * k
 row-le f k a b s t r x h = omega (arith, x .count, ones-le f (4096 * k) h)
 
--- ---- a record stored: its blocks first, then its four numbers
+-- ---- a record stored: its superblocks first, then its four numbers
 -- four numbers side by side
 put-four : (s A B C D : List ℕ) (at : ℕ) → length A ≡ 4 → length B ≡ 4 → length C ≡ 4
     → sets (sets (sets (sets s at A) (at + 4) B) (at + 8) C) (at + 12) D ≡ sets s at (A ++ (B ++ (C ++ D)))
@@ -605,12 +613,12 @@ put-four s A B C D at a b c =
     ∙ sets-join A (B ++ (C ++ D)) s at (at + 4) (omega arith)
 
 -- the whole record
-pub record-stored : (t : List ℕ) (n label total at b : ℕ) (s s1 s2 s3 s4 s5 : List ℕ) → length t ≡ n → ((p : ℕ) → cell t p ≤ 1) → b ≡ at + 16 + 16 * blocksOf n
-    → RowPut (cell t) (blocksOf n) (at + 16) b s s1 total → s2 ≡ sets s1 at (le 4 0) → s3 ≡ sets s2 (at + 4) (le 4 label) → s4 ≡ sets s3 (at + 8) (le 4 n)
+pub record-stored : (t : List ℕ) (n label total at b : ℕ) (s s1 s2 s3 s4 s5 : List ℕ) → length t ≡ n → ((p : ℕ) → cell t p ≤ 1) → b ≡ at + 16 + 16 * superblocksOf n
+    → RowPut (cell t) (superblocksOf n) (at + 16) b s s1 total → s2 ≡ sets s1 at (le 4 0) → s3 ≡ sets s2 (at + 4) (le 4 label) → s4 ≡ sets s3 (at + 8) (le 4 n)
     → s5 ≡ sets s4 (at + 12) (le 4 total) → s5 ≡ sets s at (recordOf 0 label t)
 unfolding recordOf
 record-stored t n label total at b s s1 s2 s3 s4 s5 long bits place row h2 h3 h4 h5 =
-    let k : ℕ = blocksOf n in
+    let k : ℕ = superblocksOf n in
     let A : List ℕ = le 4 0 in
     let B : List ℕ = le 4 label in
     let C : List ℕ = le 4 n in
@@ -630,7 +638,7 @@ record-stored t n label total at b s s1 s2 s3 s4 s5 long bits place row h2 h3 h4
     ∙ sets-comm H X s at (at + 16) (omega (arith, header))
     ∙ sets-join H X s at (at + 16) (omega (arith, header))
     ∙ ap (sets s at) flat
-    ∙ ap₂ (λ (m c : ℕ). sets s at (A ++ (B ++ (le 4 m ++ (le 4 c ++ (entriesFrom (cell t) 0 (blocksOf m) ++ bytesOf (cell t) (512 * blocksOf m))))))) (sym long) sum
+    ∙ ap₂ (λ (m c : ℕ). sets s at (A ++ (B ++ (le 4 m ++ (le 4 c ++ (entriesFrom (cell t) 0 (superblocksOf m) ++ bytesOf (cell t) (512 * superblocksOf m))))))) (sym long) sum
 
 -- ---- the header of an image
 -- its three numbers stored, and the rest as it was

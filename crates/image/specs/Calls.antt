@@ -1,6 +1,6 @@
 -- The calls on an image: their refusals in order, and their outcomes. Assumes nothing.
-use Prim.Native.Nat.{ℕ, _+_, _/_, _^_}
-use mathlib.Core.Bool.{Bool, true, false, not, _&&_, _||_}
+use Prim.Native.Nat.{ℕ, _+_, _/_}
+use mathlib.Core.Bool.{Bool, true, false, cond, not, _&&_}
 use mathlib.Core.List.{List, [], _∷_, _++_}
 use mathlib.Core.Option.{Option, some, none}
 use lib.ListN.{length, drop}
@@ -11,11 +11,11 @@ use Rattle.words.specs.Strip.{cell, stripOf, rank, select}
 use Rattle.words.specs.Words.{placeIn}
 use Rattle.words.specs.Refusals.{Line, _⇒_, judge, unless, Told, value, refused, found}
 use Rattle.words.specs.Handles.{untaken, stripLines}
-use Rattle.words.specs.Calls.{valueLine}
+use Rattle.words.specs.Calls.{valueLine, belowLine, withinLine}
 use Rattle.counters.specs.Promises.{Promise, AtMost, Below}
 use Rattle.image.specs.Bytes.{le}
-use Rattle.image.specs.Layout.{unitBytes, mostRow, sizeOf, recordOf}
-use Rattle.image.specs.Chain.{headerOf, labelAt, lengthAt, goodLabel, chainOf, placeOf, endOf, linkOf}
+use Rattle.image.specs.Layout.{unitBytes, headBytes, mostRow, sizeOf, recordOf}
+use Rattle.image.specs.Chain.{headerOf, labelAt, lengthAt, goodLabel, goodSize, chainOf, placeOf, endOf, linkOf}
 use Rattle.image.specs.Rows.{partAt, rowBits, Right}
 
 -- whether there is something
@@ -41,11 +41,11 @@ imageOutcome t s = record { told = t; image = s }
 
 -- clear: 13 image under 16 or over 2^32 bytes
 abbrev pub clearTable : List ℕ → List Line
-clearTable s = ((ltb (length s) unitBytes || ltb (2 ^ 32) (length s)) ⇒ 13) ∷ []
+clearTable s = (not (goodSize (length s)) ⇒ 13) ∷ []
 
 -- it writes the header of an empty chain and no other byte, and answers 16
 abbrev pub clearOutcome : List ℕ → ImageOutcome
-clearOutcome s = unless (judge (clearTable s)) (λ n. imageOutcome (refused n) s) (imageOutcome (value 16) (headerOf 0 ++ drop unitBytes s))
+clearOutcome s = unless (judge (clearTable s)) (λ n. imageOutcome (refused n) s) (imageOutcome (value unitBytes) (headerOf 0 ++ drop unitBytes s))
 
 -- 10 chain not sound
 abbrev pub chainLine : List ℕ → Line
@@ -59,11 +59,14 @@ labelLine label = not (goodLabel label) ⇒ 11
 abbrev pub recordWith : List ℕ → ℕ → Option ℕ
 recordWith s label = placeOf s label (recordsOf s)
 
--- freeze(label): words only; 1, 2; 10; 11; 12 label present; 13 the record does not end inside the image
+-- a new record of so many bytes: 10; 11; 12 label present; 13 the record does not end inside the image
+abbrev pub recordLines : List ℕ → ℕ → ℕ → List Line
+recordLines s label size =
+    chainLine s ∷ labelLine label ∷ (isSome (recordWith s label) ⇒ 12) ∷ (ltb (length s) (endOf s (recordsOf s) + size) ⇒ 13) ∷ []
+
+-- freeze(label): words only; 1, 2; 10; 11; 12; 13
 abbrev pub freezeTable : Handle → ℕ → List ℕ → ℕ → List Line
-freezeTable h words s label =
-    stripLines h words untaken
-    ++ (chainLine s ∷ labelLine label ∷ (isSome (recordWith s label) ⇒ 12) ∷ (ltb (length s) (endOf s (recordsOf s) + sizeOf (h .length)) ⇒ 13) ∷ [])
+freezeTable h words s label = stripLines h words untaken ++ recordLines s label (sizeOf (h .length))
 
 -- the image with the record of strip t: it starts at the last record's end, or unit 1; its unit index replaces the zero that ended the chain
 abbrev pub frozen : List ℕ → ℕ → List ℕ → List ℕ
@@ -80,20 +83,34 @@ freezeOutcome h ws s label =
 abbrev pub openTable : List ℕ → ℕ → List Line
 openTable s label = chainLine s ∷ labelLine label ∷ (not (isSome (recordWith s label)) ⇒ 14) ∷ []
 
--- it answers the byte where the record starts
+-- the place of a label's record, the row's own part of the image, and its length
+abbrev pub rowPlace : List ℕ → ℕ → ℕ
+rowPlace s label = placeIn 0 (recordWith s label)
+
+abbrev pub rowPart : List ℕ → ℕ → List ℕ
+rowPart s label = partAt s (rowPlace s label)
+
+abbrev pub rowLength : List ℕ → ℕ → ℕ
+rowLength s label = lengthAt s (rowPlace s label)
+
+-- opening answers the byte where the record starts
 abbrev pub openTold : List ℕ → ℕ → Told
-openTold s label = unless (judge (openTable s label)) refused (value (placeIn 0 (recordWith s label)))
+openTold s label = unless (judge (openTable s label)) refused (value (rowPlace s label))
 
 -- and gives that row's own part of the image; a refused opening's part is empty
 abbrev pub openPart : List ℕ → ℕ → List ℕ
-openPart s label = unless (judge (openTable s label)) (λ n. []) (partAt s (placeIn 0 (recordWith s label)))
+openPart s label = unless (judge (openTable s label)) (λ n. []) (rowPart s label)
+
+-- the length that is held with a part: that of its record; 0 for a part too short for one
+unfoldable pub heldLength : List ℕ → ℕ
+heldLength part = cond (leb headBytes (length part)) (lengthAt part 0) 0
 
 -- A row's part and a held length n.
 
 -- the part is exactly one record with label and length in range, and n is its length
 unfoldable pub goodPart : List ℕ → ℕ → Bool
 goodPart part n =
-    leb unitBytes (length part)
+    leb headBytes (length part)
     && (goodLabel (labelAt part 0)
     && (leb (lengthAt part 0) mostRow && (eqb (length part) (sizeOf (lengthAt part 0)) && eqb n (lengthAt part 0))))
 
@@ -101,21 +118,14 @@ goodPart part n =
 abbrev pub partLine : List ℕ → ℕ → Line
 partLine part n = not (goodPart part n) ⇒ 10
 
--- 4 i not below the length; 4 i above it
-abbrev pub rowBelowLine : ℕ → ℕ → Line
-rowBelowLine n i = leb n i ⇒ 4
-
-abbrev pub rowWithinLine : ℕ → ℕ → Line
-rowWithinLine n i = ltb n i ⇒ 4
-
 -- look(i) on a part: 10; 4; the bit
 abbrev pub partGetTold : List ℕ → ℕ → ℕ → Told
-partGetTold part n i = unless (judge (partLine part n ∷ rowBelowLine n i ∷ [])) refused (value (cell (rowBits part n) i))
+partGetTold part n i = unless (judge (partLine part n ∷ belowLine n i ∷ [])) refused (value (cell (rowBits part n) i))
 
--- count(v, i) on a part: 10; 8; 4; then 15
+-- count(v, i) on a part: 10; 8; 4; then 15; on a wrong row at most i, and so at most the length, or 15
 abbrev pub PartRanked : List ℕ → ℕ → ℕ → ℕ → Told → Type 0
 PartRanked part n v i =
-    Promise Told (judge (partLine part n ∷ valueLine v ∷ rowWithinLine n i ∷ [])) refused (value (rank (rowBits part n) v i)) (Right part n) (AtMost 15 n)
+    Promise Told (judge (partLine part n ∷ valueLine v ∷ withinLine n i ∷ [])) refused (value (rank (rowBits part n) v i)) (Right part n) (AtMost 15 i)
 
 -- find(v, k) on a part: 10; 8; then 6; then 15
 abbrev pub PartSelected : List ℕ → ℕ → ℕ → ℕ → Told → Type 0
@@ -124,26 +134,16 @@ PartSelected part n v k =
 
 -- A row of an image, by its label: 10; 11; 14; then as on its part.
 
--- the row's place, part and length
-abbrev pub placeIs : List ℕ → ℕ → ℕ
-placeIs s label = placeIn 0 (recordWith s label)
-
-abbrev pub rowPart : List ℕ → ℕ → List ℕ
-rowPart s label = partAt s (placeIs s label)
-
-abbrev pub rowLength : List ℕ → ℕ → ℕ
-rowLength s label = lengthAt s (placeIs s label)
-
 -- row look: then 4; the bit
 abbrev pub rowGetTold : List ℕ → ℕ → ℕ → Told
 rowGetTold s label i =
-    unless (judge (openTable s label ++ (rowBelowLine (rowLength s label) i ∷ []))) refused (value (cell (rowBits (rowPart s label) (rowLength s label)) i))
+    unless (judge (openTable s label ++ (belowLine (rowLength s label) i ∷ []))) refused (value (cell (rowBits (rowPart s label) (rowLength s label)) i))
 
--- row count: then 8; 4; 15 last
+-- row count: then 8; 4; 15 last; on a wrong row at most i, and so at most the length, or 15
 abbrev pub RowRanked : List ℕ → ℕ → ℕ → ℕ → Told → Type 0
 RowRanked s label v i =
-    Promise Told (judge (openTable s label ++ (valueLine v ∷ rowWithinLine (rowLength s label) i ∷ []))) refused
-    (value (rank (rowBits (rowPart s label) (rowLength s label)) v i)) (Right (rowPart s label) (rowLength s label)) (AtMost 15 (rowLength s label))
+    Promise Told (judge (openTable s label ++ (valueLine v ∷ withinLine (rowLength s label) i ∷ []))) refused
+    (value (rank (rowBits (rowPart s label) (rowLength s label)) v i)) (Right (rowPart s label) (rowLength s label)) (AtMost 15 i)
 
 -- row find: then 8; 6; 15 last
 abbrev pub RowSelected : List ℕ → ℕ → ℕ → ℕ → Told → Type 0

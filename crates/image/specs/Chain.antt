@@ -1,12 +1,12 @@
 -- The header and the chain of records. Assumes nothing.
-use Prim.Native.Nat.{ℕ, zero, suc, _+_, _*_, _^_}
+use Prim.Native.Nat.{ℕ, zero, suc, _+_, _*_}
 use mathlib.Core.List.{List, [], _∷_, _++_}
 use mathlib.Core.Option.{Option, some, none}
 use mathlib.Core.Bool.{Bool, true, false, cond, not, _&&_, _||_}
 use lib.ListN.{length}
 use lib.Dec.{leb, eqb}
 use Rattle.image.specs.Bytes.{num, le}
-use Rattle.image.specs.Layout.{unitBytes, kind, mostLabel, mostRow, sizeOf}
+use Rattle.image.specs.Layout.{unitBytes, headBytes, kind, mostBytes, mostLabel, mostRow, sizeOf}
 
 -- the header: the first record's unit index, zero where there is none; the kind; zeros
 abbrev pub headerOf : ℕ → List ℕ
@@ -33,14 +33,18 @@ endAt s a = a + sizeOf (lengthAt s a)
 abbrev pub goodLabel : ℕ → Bool
 goodLabel n = leb 1 n && leb n mostLabel
 
+-- 16 to 2^32 bytes
+abbrev pub goodSize : ℕ → Bool
+goodSize n = leb unitBytes n && leb n mostBytes
+
 -- the image has 16 to 2^32 bytes, and bytes 4 to 15 are right
 unfoldable pub soundHeader : List ℕ → Bool
-soundHeader s = leb unitBytes (length s) && (leb (length s) (2 ^ 32) && (eqb (num s 4 4) kind && eqb (num s 8 8) 0))
+soundHeader s = goodSize (length s) && (eqb (num s 4 4) kind && eqb (num s 8 8) 0)
 
 -- the record at byte a lies inside the image, its label and length are in range, and its next is zero or not before its end
 unfoldable pub soundRecord : List ℕ → ℕ → Bool
 soundRecord s a =
-    leb (a + 16) (length s)
+    leb (a + headBytes) (length s)
     && (goodLabel (labelAt s a)
     && (leb (lengthAt s a) mostRow
     && (leb (endAt s a) (length s) && (eqb (nextAt s a) 0 || leb (endAt s a) (unitBytes * nextAt s a)))))

@@ -2,7 +2,7 @@ pub mod Bytes
 pub mod Layout
 pub mod Chain
 pub mod Rows
-pub mod Shelf
+pub mod Written
 pub mod Calls
 pub mod Walk
 pub mod Writing

@@ -1,21 +1,16 @@
 // The header, and the chain of records.
 ghost use mathlib.Core.Path.{_≡_};
-ghost use Prim.Native.Nat.{_<_};
-ghost use Rattle.image.specs.Layout.{sizeOf};
 ghost use Rattle.image.specs.Chain.{soundHeader, soundRecord};
 ghost use Rattle.image.specs.Walk.{scanOf};
 use super::bytes::index_at;
-
-// A unit of the image, in bytes.
-pub const UNIT_BYTES: usize = 16;
-// The longest image, in bytes.
-pub const MOST_BYTES: usize = 4294967296;
-// The kind of an image.
-pub const KIND: usize = 1;
-// The highest label.
-pub const MOST_LABEL: usize = 64;
-// The longest row, in bits.
-pub const MOST_ROW: usize = 134217728;
+use super::layout::HEAD_BYTES;
+use super::layout::KIND;
+use super::layout::MOST_LABEL;
+use super::layout::MOST_ROW;
+use super::layout::UNIT_BYTES;
+use super::layout::label_good;
+use super::layout::record_size;
+use super::layout::size_good;
 
 // What one walk of the chain tells: where the index that ends it stands, where its last record ends, and where the label's record starts, 0 for none.
 pub enum Scan {
@@ -27,23 +22,11 @@ pub enum Scan {
     },
 }
 
-// The size of a record of so many bits: 16 bytes, and 528 for each block of 4,096 bits.
-pub fn record_size(bits: usize) -> usize
-    requires { ⌜ bits < 4294967296 ⌝ }
-    ensures { λ r. ⌜ r ≡ sizeOf bits ⌝ }
-{
-    16 + 528 * ((bits + 4095) / 4096)
-}
-
 // Whether the image has 16 to 2^32 bytes and its header is right.
 pub fn header_sound(image: &[u8]) -> bool
     ensures { λ r. ⌜ r ≡ soundHeader (now (image .entry)) ⌝ }
 {
-    let n = image.len();
-    if n < UNIT_BYTES {
-        return false;
-    }
-    if MOST_BYTES < n {
+    if !size_good(image.len()) {
         return false;
     }
     if index_at(image, 4) != KIND {
@@ -60,17 +43,13 @@ pub fn record_sound(image: &[u8], at: usize) -> bool
     ensures { λ r. ⌜ r ≡ soundRecord (now (image .entry)) at ⌝ }
 {
     let n = image.len();
-    if n < UNIT_BYTES {
+    if n < HEAD_BYTES {
         return false;
     }
-    if n - UNIT_BYTES < at {
+    if n - HEAD_BYTES < at {
         return false;
     }
-    let label = index_at(image, at + 4);
-    if label < 1 {
-        return false;
-    }
-    if MOST_LABEL < label {
+    if !label_good(index_at(image, at + 4)) {
         return false;
     }
     let bits = index_at(image, at + 8);

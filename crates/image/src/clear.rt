@@ -2,6 +2,9 @@
 ghost use mathlib.Core.Path.{_≡_};
 ghost use Rattle.words.specs.Refusals.{toldOf};
 ghost use Rattle.image.specs.Calls.{imageOutcome, clearOutcome};
+use super::layout::KIND;
+use super::layout::UNIT_BYTES;
+use super::layout::size_good;
 use super::put::put_le;
 use super::put::put_word;
 use words::refusal::Answer;
@@ -11,14 +14,11 @@ use words::refusal::Refusal;
 pub fn clear(image: &mut [u8]) -> Answer
     ensures { λ r. ⌜ imageOutcome (toldOf r) (now (image .exit)) ≡ clearOutcome (now (image .entry)) ⌝ }
 {
-    if image.len() < 16 {
-        return Answer::Refused(Refusal::NoRoom);
-    }
-    if 4294967296 < image.len() {
+    if !size_good(image.len()) {
         return Answer::Refused(Refusal::NoRoom);
     }
     put_le(image, 0, 4, 0);
-    put_le(image, 4, 4, 1);
+    put_le(image, 4, 4, KIND as u64);
     put_word(image, 8, 0);
-    Answer::Value(16)
+    Answer::Value(UNIT_BYTES as u64)
 }

@@ -2,8 +2,12 @@
 pub mod bytes;
 pub mod chain;
 pub mod clear;
+pub mod freeze;
+pub mod layout;
 pub mod open;
+pub mod opened;
 pub mod part;
 pub mod put;
+pub mod reading;
 pub mod row;
 pub mod write;

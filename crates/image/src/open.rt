@@ -1,12 +1,17 @@
 // Opening a row by its label.
 ghost use mathlib.Core.Path.{_≡_};
+ghost use Prim.Native.Nat.{_+_, _≤_};
+ghost use lib.ListN.{length};
 ghost use Rattle.words.specs.Refusals.{toldOf};
-ghost use Rattle.image.specs.Calls.{openTold, openPart};
+ghost use Rattle.image.specs.Chain.{endAt};
+ghost use Rattle.image.specs.Rows.{partAt};
+ghost use Rattle.image.specs.Calls.{openTold, openPart, heldLength};
 use super::bytes::index_at;
-use super::chain::MOST_LABEL;
 use super::chain::Scan;
-use super::chain::record_size;
 use super::chain::scan_chain;
+use super::layout::HEAD_BYTES;
+use super::layout::label_good;
+use super::layout::record_size;
 use words::refusal::Answer;
 use words::refusal::Refusal;
 
@@ -21,10 +26,7 @@ pub fn open_row(image: &[u8], label: usize) -> Answer
             end: _,
             found,
         } => {
-            if label < 1 {
-                return Answer::Refused(Refusal::BadLabel);
-            }
-            if MOST_LABEL < label {
+            if !label_good(label) {
                 return Answer::Refused(Refusal::BadLabel);
             }
             if found == 0 {
@@ -35,6 +37,15 @@ pub fn open_row(image: &[u8], label: usize) -> Answer
     }
 }
 
+// The part of the image that the record at byte `at` takes.
+pub fn record_part(image: &[u8], at: usize) -> &[u8]
+    requires { ⌜ (at + 16 ≤ length (now image)) × (endAt (now image) at ≤ length (now image)) ⌝ }
+    ensures { λ r. ⌜ now r ≡ partAt (now (image .entry)) at ⌝ }
+{
+    let size = record_size(index_at(image, at + 8));
+    &image[at..at + size]
+}
+
 // The row's own part of the image, from its record's start to its end; empty where the opening is refused.
 pub fn row_part(image: &[u8], label: usize) -> &[u8]
     ensures { λ r. ⌜ now r ≡ openPart (now (image .entry)) label ⌝ }
@@ -43,7 +54,15 @@ pub fn row_part(image: &[u8], label: usize) -> &[u8]
     let Answer::Value(at) = o else {
         return &image[..0];
     };
-    let start = at as usize;
-    let size = record_size(index_at(image, start + 8));
-    &image[start..start + size]
+    record_part(image, at as usize)
+}
+
+// The length that a row's part gives; 0 for a part too short for a record.
+pub fn row_length(part: &[u8]) -> usize
+    ensures { λ r. ⌜ r ≡ heldLength (now (part .entry)) ⌝ }
+{
+    if part.len() < HEAD_BYTES {
+        return 0;
+    }
+    index_at(part, 8)
 }

@@ -1,193 +1,98 @@
-// Reading the part of a row of n bits: entries, then at most 64 bytes of bits.
+// The calls on a row's part and a held length: look, count and find.
 ghost use mathlib.Core.Path.{_≡_};
-ghost use mathlib.Core.Bool.{cond};
-ghost use Prim.Native.Nat.{ℕ, _+_, _-_, _*_, _/_, _^_, _<_, _≤_};
-ghost use lib.Dec.{eqb};
-ghost use lib.ListN.{length};
-ghost use Rattle.words.specs.Bits.{bitAt, ones};
-ghost use Rattle.words.specs.Strip.{cell, rankOf, selectOf};
-ghost use Rattle.words.specs.Words.{placeIn};
-ghost use Rattle.words.specs.Working.{atMost};
-ghost use Rattle.image.specs.Bytes.{bitFrom};
-ghost use Rattle.image.specs.Layout.{blocksOf, bitsStart, sizeOf};
-ghost use Rattle.image.specs.Chain.{onesAt};
-ghost use Rattle.image.specs.Rows.{rowBits, Right};
-ghost use Rattle.image.specs.Reading.{partField, onesSaid, valueSaid, Halved};
-use super::bytes::byte_at;
+ghost use Rattle.words.specs.Refusals.{toldOf};
+ghost use Rattle.image.specs.Calls.{goodPart, partGetTold, PartRanked, PartSelected};
 use super::bytes::index_at;
-use super::bytes::u64_at;
-use words::bits::bit_of;
-use words::block::block_rank;
-use words::block::block_select;
+use super::layout::HEAD_BYTES;
+use super::layout::MOST_ROW;
+use super::layout::label_good;
+use super::layout::record_size;
+use super::reading::part_bit;
+use super::reading::part_ones;
+use super::reading::part_ones_before;
+use super::reading::part_position;
+use words::bits::of_value;
+use words::refusal::Answer;
+use words::refusal::Refusal;
 
-// The bits of a block.
-pub const BLOCK_BITS: usize = 4096;
-// The bits of a part of a block.
-pub const PART_BITS: usize = 512;
-// The bytes of an entry.
-pub const ENTRY_BYTES: usize = 16;
-
-// The blocks of n bits.
-pub fn blocks_of(n: usize) -> usize
-    requires { ⌜ n ≤ 134217728 ⌝ }
-    ensures { λ r. ⌜ (r ≡ blocksOf n) × (r ≤ 32768) ⌝ }
+// Whether a part is exactly one record with label and length in range, of length n.
+pub fn check_part(part: &[u8], n: usize) -> bool
+    ensures { λ r. ⌜ r ≡ goodPart (now (part .entry)) n ⌝ }
 {
-    (n + (BLOCK_BITS - 1)) / BLOCK_BITS
-}
-
-// Where the bits start in a record of n bits.
-pub fn bits_start(n: usize) -> usize
-    requires { ⌜ n ≤ 134217728 ⌝ }
-    ensures { λ r. ⌜ (r ≡ bitsStart n) × (r ≤ 524304) ⌝ }
-{
-    16 + ENTRY_BYTES * blocks_of(n)
-}
-
-// Bit i of a row.
-pub fn part_bit(part: &[u8], n: usize, i: usize) -> u64
-    requires { ⌜ (length (now part) ≡ sizeOf n) × (n ≤ 134217728) × (i < n) ⌝ }
-    ensures { λ r. ⌜ r ≡ bitFrom (now (part .entry)) (bitsStart n) i ⌝ }
-{
-    bit_of(byte_at(part, bits_start(n) + i / 8), i % 8)
-}
-
-// The ones of an entry's block before its part j, of an entry in two halves: parts 0 to 4 from the 52 bits past the lowest 44, with 12 zeros below them,
-// the others from the high half.
-fn part_field(low: u64, high: u64, j: usize) -> u64
-    requires { ⌜ j < 8 ⌝ }
-    ensures { λ r. ⌜ (r ≡ partField (low + 2 ^ 64 * high) j) × (r < 4096) ⌝ }
-{
-    if j < 5 {
-        return ((((low >> 44) << 12) + (high << 32)) >> (12 * j)) % 4096;
+    let bytes = part.len();
+    if bytes < HEAD_BYTES {
+        return false;
     }
-    (high >> (12 * j - 32)) % 4096
-}
-
-// The ones before part m of 512 bits, as the entry of its block says. No other function reads an entry.
-fn ones_said(part: &[u8], m: usize) -> usize
-    requires { ⌜ 32 + 16 * (m / 8) ≤ length (now part) ⌝ }
-    ensures { λ r. ⌜ (r ≡ onesSaid (now (part .entry)) m) × (r < 17592186048512) ⌝ }
-{
-    let at = 16 + ENTRY_BYTES * (m / 8);
-    let low = u64_at(part, at);
-    let high = u64_at(part, at + 8);
-    (low % 17592186044416 + part_field(low, high, m % 8)) as usize
-}
-
-// The 512 bits from byte `at` on, as eight words.
-fn block_at(part: &[u8], at: usize) -> [u64; 8]
-    requires { ⌜ at + 64 ≤ length (now part) ⌝ }
-    ensures { λ r. ⌜ (length r ≡ 8) × ((p : ℕ) → p < 512 → bitAt r p ≡ bitFrom (now (part .entry)) at p) ⌝ }
-{
-    let mut block = [0u64; 8];
-    for j in 0..8 {
-        block[j] = u64_at(part, at + 8 * j);
+    if !label_good(index_at(part, 4)) {
+        return false;
     }
-    block
-}
-
-// The ones of a row before position i: those before the part of position i - 1, and those in it.
-pub fn part_ones_before(part: &[u8], n: usize, i: usize) -> usize
-    requires { ⌜ (length (now part) ≡ sizeOf n) × (n ≤ 134217728) × (i ≤ n) ⌝ }
-    ensures { λ r. ⌜ (r ≤ 70368744177664) × (Right (now (part .entry)) n → r ≡ ones (cell (rowBits (now (part .entry)) n)) i) ⌝ }
-{
-    if i == 0 {
-        return 0;
+    let length = index_at(part, 8);
+    if MOST_ROW < length {
+        return false;
     }
-    let m = (i - 1) / PART_BITS;
-    let block = block_at(part, bits_start(n) + 64 * m);
-    ones_said(part, m) + block_rank(&block[..], i - PART_BITS * m)
-}
-
-// The ones of a row, as its record says.
-pub fn part_ones(part: &[u8]) -> usize
-    requires { ⌜ 16 ≤ length (now part) ⌝ }
-    ensures { λ r. ⌜ (r ≡ onesAt (now (part .entry)) 0) × (r < 4294967296) ⌝ }
-{
-    index_at(part, 12)
-}
-
-// The number of v among n bits of which `ones` are ones; 0 where there are more ones than bits.
-pub fn of_value(v: u64, n: usize, ones: usize) -> usize
-    ensures { λ r. ⌜ r ≡ cond (eqb v 1) ones (n - ones) ⌝ }
-{
-    if v == 1 {
-        return ones;
+    if bytes != record_size(length) {
+        return false;
     }
+    n == length
+}
+
+// look(i): the bit at position i.
+pub fn part_get(part: &[u8], n: usize, i: usize) -> Answer
+    ensures { λ r. ⌜ toldOf r ≡ partGetTold (now (part .entry)) n i ⌝ }
+{
+    if !check_part(part, n) {
+        return Answer::Refused(Refusal::Unsound);
+    }
+    if n <= i {
+        return Answer::Refused(Refusal::Position);
+    }
+    Answer::Value(part_bit(part, n, i))
+}
+
+// count(v, i): how many of the first i bits equal v.
+pub fn part_rank(part: &[u8], n: usize, v: u64, i: usize) -> Answer
+    ensures { λ r. ⌜ PartRanked (now (part .entry)) n v i (toldOf r) ⌝ }
+{
+    if !check_part(part, n) {
+        return Answer::Refused(Refusal::Unsound);
+    }
+    if 1 < v {
+        return Answer::Refused(Refusal::BadValue);
+    }
+    if n < i {
+        return Answer::Refused(Refusal::Position);
+    }
+    let ones = part_ones_before(part, n, i);
+    if i < ones {
+        return Answer::Refused(Refusal::WrongRow);
+    }
+    Answer::Value(of_value(v, i, ones) as u64)
+}
+
+// find(v, k): the position that holds v and has k of v before it.
+pub fn part_select(part: &[u8], n: usize, v: u64, k: usize) -> Answer
+    ensures { λ r. ⌜ PartSelected (now (part .entry)) n v k (toldOf r) ⌝ }
+{
+    if !check_part(part, n) {
+        return Answer::Refused(Refusal::Unsound);
+    }
+    if 1 < v {
+        return Answer::Refused(Refusal::BadValue);
+    }
+    if n <= k {
+        return Answer::Refused(Refusal::NotFound);
+    }
+    let ones = part_ones(part);
     if n < ones {
-        return 0;
+        return Answer::Refused(Refusal::WrongRow);
     }
-    n - ones
-}
-
-// The number of v before part m, as the entries say.
-fn value_said(part: &[u8], v: u64, m: usize) -> usize
-    requires { ⌜ (32 + 16 * (m / 8) ≤ length (now part)) × (m < 262144) ⌝ }
-    ensures { λ r. ⌜ r ≡ valueSaid (now (part .entry)) v m ⌝ }
-{
-    of_value(v, PART_BITS * m, ones_said(part, m))
-}
-
-// 1 where at most k of v come before part m, as the entries say, else 0: a number, so that no branch depends on it.
-fn reached(part: &[u8], v: u64, m: usize, k: usize) -> usize
-    requires { ⌜ (32 + 16 * (m / 8) ≤ length (now part)) × (m < 262144) ⌝ }
-    ensures { λ r. ⌜ r ≡ atMost (valueSaid (now (part .entry)) v) k m ⌝ }
-{
-    (value_said(part, v, m) <= k) as usize
-}
-
-// Of `count` blocks the one with the k-th v, as the entries say: by steps of half the length each.
-fn block_with(part: &[u8], count: usize, v: u64, k: usize) -> usize
-    requires { ⌜ (0 < count) × (count ≤ 32768) × (16 + 16 * count ≤ length (now part)) ⌝ }
-    ensures { λ r. ⌜ (r < count) × Halved (λ b. valueSaid (now (part .entry)) v (8 * b)) count k r (r + 1) ⌝ }
-{
-    let mut lo: usize = 0;
-    let mut t: usize = 15;
-    while 0 < t {
-        t -= 1;
-        let mid = lo + (1usize << t);
-        if mid < count {
-            lo += reached(part, v, 8 * mid, k) << t;
-        }
+    if of_value(v, n, ones) <= k {
+        return Answer::Refused(Refusal::NotFound);
     }
-    lo
-}
-
-// Of `count` parts the one with the k-th v: in the block with it, by three steps more.
-fn part_with(part: &[u8], count: usize, v: u64, k: usize) -> usize
-    requires { ⌜ (0 < count) × (count ≤ 262144) × (16 + 16 * ((count + 7) / 8) ≤ length (now part)) ⌝ }
-    ensures { λ r. ⌜ (r < count) × Halved (valueSaid (now (part .entry)) v) count k r (r + 1) ⌝ }
-{
-    let mut lo = 8 * block_with(part, (count + 7) / 8, v, k);
-    let mut t: usize = 3;
-    while 0 < t {
-        t -= 1;
-        let mid = lo + (1usize << t);
-        if mid < count {
-            lo += reached(part, v, mid, k) << t;
-        }
+    let p = part_position(part, n, v, k);
+    if p < n {
+        Answer::Value(p as u64)
+    } else {
+        Answer::Refused(Refusal::WrongRow)
     }
-    lo
-}
-
-// The position of the k-th v of a row, k from 0, or n where the entries lead nowhere.
-pub fn part_position(part: &[u8], n: usize, v: u64, k: usize) -> usize
-    requires { ⌜ (length (now part) ≡ sizeOf n) × (n ≤ 134217728) × (v ≤ 1) ⌝ }
-    ensures { λ r. ⌜ (r ≤ n) × (Right (now (part .entry)) n → k < rankOf (cell (rowBits (now (part .entry)) n)) v n → r ≡ placeIn n (selectOf (cell (rowBits (now (part .entry)) n)) n v k)) ⌝ }
-{
-    if n == 0 {
-        return n;
-    }
-    let m = part_with(part, (n + (PART_BITS - 1)) / PART_BITS, v, k);
-    let said = value_said(part, v, m);
-    if k < said {
-        return n;
-    }
-    let block = block_at(part, bits_start(n) + 64 * m);
-    let p = block_select(&block[..], v, k - said);
-    if p == PART_BITS {
-        return n;
-    }
-    let position = PART_BITS * m + p;
-    if position < n { position } else { n }
 }

@@ -1,98 +1,47 @@
-// The calls on a row's part and a held length: look, count and find.
+// The readings of a row of an image by its label: look, count and find.
 ghost use mathlib.Core.Path.{_≡_};
 ghost use Rattle.words.specs.Refusals.{toldOf};
-ghost use Rattle.image.specs.Calls.{goodPart, partGetTold, PartRanked, PartSelected};
+ghost use Rattle.image.specs.Calls.{rowGetTold, RowRanked, RowSelected};
 use super::bytes::index_at;
-use super::chain::MOST_LABEL;
-use super::chain::MOST_ROW;
-use super::chain::record_size;
-use super::part::of_value;
-use super::part::part_bit;
-use super::part::part_ones;
-use super::part::part_ones_before;
-use super::part::part_position;
+use super::open::open_row;
+use super::open::record_part;
+use super::part::part_get;
+use super::part::part_rank;
+use super::part::part_select;
 use words::refusal::Answer;
-use words::refusal::Refusal;
 
-// Whether a part is exactly one record with label and length in range, of length n.
-pub fn check_part(part: &[u8], n: usize) -> bool
-    ensures { λ r. ⌜ r ≡ goodPart (now (part .entry)) n ⌝ }
+// row look(i): the bit at position i of the label's row.
+pub fn row_get(image: &[u8], label: usize, i: usize) -> Answer
+    ensures { λ r. ⌜ toldOf r ≡ rowGetTold (now (image .entry)) label i ⌝ }
 {
-    let bytes = part.len();
-    if bytes < 16 {
-        return false;
-    }
-    let label = index_at(part, 4);
-    if label < 1 {
-        return false;
-    }
-    if MOST_LABEL < label {
-        return false;
-    }
-    let length = index_at(part, 8);
-    if MOST_ROW < length {
-        return false;
-    }
-    if bytes != record_size(length) {
-        return false;
-    }
-    n == length
+    let o = open_row(image, label);
+    let Answer::Value(at) = o else {
+        return o; // unchanged
+    };
+    let part = record_part(image, at as usize);
+    part_get(part, index_at(part, 8), i)
 }
 
-// look(i): the bit at position i.
-pub fn part_get(part: &[u8], n: usize, i: usize) -> Answer
-    ensures { λ r. ⌜ toldOf r ≡ partGetTold (now (part .entry)) n i ⌝ }
+// row count(v, i): how many of the first i bits of the label's row equal v.
+pub fn row_rank(image: &[u8], label: usize, v: u64, i: usize) -> Answer
+    ensures { λ r. ⌜ RowRanked (now (image .entry)) label v i (toldOf r) ⌝ }
 {
-    if !check_part(part, n) {
-        return Answer::Refused(Refusal::Unsound);
-    }
-    if n <= i {
-        return Answer::Refused(Refusal::Position);
-    }
-    Answer::Value(part_bit(part, n, i))
+    let o = open_row(image, label);
+    let Answer::Value(at) = o else {
+        return o;
+    };
+    let part = record_part(image, at as usize);
+    part_rank(part, index_at(part, 8), v, i)
 }
 
-// count(v, i): how many of the first i bits equal v.
-pub fn part_rank(part: &[u8], n: usize, v: u64, i: usize) -> Answer
-    ensures { λ r. ⌜ PartRanked (now (part .entry)) n v i (toldOf r) ⌝ }
+// row find(v, k): the position in the label's row that holds v and has k of v before it.
+pub fn row_select(image: &[u8], label: usize, v: u64, k: usize) -> Answer
+    ensures { λ r. ⌜ RowSelected (now (image .entry)) label v k (toldOf r) ⌝ }
 {
-    if !check_part(part, n) {
-        return Answer::Refused(Refusal::Unsound);
-    }
-    if 1 < v {
-        return Answer::Refused(Refusal::BadValue);
-    }
-    if n < i {
-        return Answer::Refused(Refusal::Position);
-    }
-    let ones = part_ones_before(part, n, i);
-    if i < ones {
-        return Answer::Refused(Refusal::WrongRow);
-    }
-    Answer::Value(of_value(v, i, ones) as u64)
-}
-
-// find(v, k): the position that holds v and has k of v before it.
-pub fn part_select(part: &[u8], n: usize, v: u64, k: usize) -> Answer
-    ensures { λ r. ⌜ PartSelected (now (part .entry)) n v k (toldOf r) ⌝ }
-{
-    if !check_part(part, n) {
-        return Answer::Refused(Refusal::Unsound);
-    }
-    if 1 < v {
-        return Answer::Refused(Refusal::BadValue);
-    }
-    let ones = part_ones(part);
-    if n < ones {
-        return Answer::Refused(Refusal::WrongRow);
-    }
-    if of_value(v, n, ones) <= k {
-        return Answer::Refused(Refusal::NotFound);
-    }
-    let p = part_position(part, n, v, k);
-    if p < n {
-        Answer::Value(p as u64)
-    } else {
-        Answer::Refused(Refusal::WrongRow)
-    }
+    let o = open_row(image, label);
+    let Answer::Value(at) = o else {
+        return o;
+    };
+    let part = record_part(image, at as usize);
+    part_select(part, index_at(part, 8), v, k)
 }

@@ -5,8 +5,15 @@ ghost use lib.ListN.{length, getD};
 ghost use lib.Seq.{sets};
 ghost use Rattle.words.specs.Bits.{bit, bitAt, ones, digits};
 ghost use Rattle.words.specs.Strip.{cell, stripOf};
-ghost use Rattle.image.specs.Layout.{blocksOf, bytesOf, recordOf, sizeOf};
-ghost use Rattle.image.specs.Writing.{wordBits, BitsPut, BlockPut, RowPut};
+ghost use Rattle.image.specs.Layout.{superblocksOf, bytesOf, recordOf, sizeOf};
+ghost use Rattle.image.specs.Writing.{wordBits, BitsPut, SuperblockPut, RowPut};
+use super::layout::BLOCK_BYTES;
+use super::layout::ENTRY_BYTES;
+use super::layout::HEAD_BYTES;
+use super::layout::SUPERBLOCK_BITS;
+use super::layout::SUPERBLOCK_BYTES;
+use super::layout::bits_start;
+use super::layout::superblocks_of;
 use super::put::put_bytes;
 use super::put::put_le;
 use super::put::put_word;
@@ -41,40 +48,40 @@ fn last_words(words: &[u64], w: usize, n: usize) -> [u64; 64]
 }
 
 // The eight words from word w on.
-fn part_words(words: &[u64], w: usize) -> [u64; 8]
+fn block_words(words: &[u64], w: usize) -> [u64; 8]
     requires { ⌜ w + 8 ≤ length (now words) ⌝ }
     ensures { λ r. ⌜ (length r ≡ 8) × ((j : ℕ) → j < 8 → getD r j 0 ≡ getD (now (words .entry)) (w + j) 0) ⌝ }
 {
-    let mut part = [0u64; 8];
+    let mut block = [0u64; 8];
     for j in 0..8 {
-        part[j] = words[w + j];
+        block[j] = words[w + j];
     }
-    part
+    block
 }
 
-// The bytes of a part of eight words, from byte at on, and its ones. The words come by value: no store lies between their reads.
-fn put_part(bytes: &mut [u8], at: usize, part: [u64; 8]) -> usize
-    requires { ⌜ (at + 64 ≤ length (now bytes)) × (length part ≡ 8) ⌝ }
-    ensures { λ r. ⌜ BitsPut (bitAt part) 64 at (now (bytes .entry)) (now (bytes .exit)) r ⌝ }
+// The bytes of a block of eight words, from byte at on, and its ones. The words come by value: no store lies between their reads.
+fn put_block(bytes: &mut [u8], at: usize, block: [u64; 8]) -> usize
+    requires { ⌜ (at + 64 ≤ length (now bytes)) × (length block ≡ 8) ⌝ }
+    ensures { λ r. ⌜ BitsPut (bitAt block) 64 at (now (bytes .entry)) (now (bytes .exit)) r ⌝ }
 {
     let mut sum: usize = 0;
     for j in 0..8 {
-        let x = part[j];
+        let x = block[j];
         put_word(bytes, at + 8 * j, x);
         sum += ones_of(x);
     }
     sum
 }
 
-// The bytes of the 64 words from word w on, from byte at on, and the ones up to the end of each of their eight parts.
-fn put_block(bytes: &mut [u8], at: usize, words: &[u64], w: usize) -> [usize; 8]
+// The bytes of the 64 words from word w on, from byte at on, and the ones up to the end of each of their eight blocks.
+fn put_superblock(bytes: &mut [u8], at: usize, words: &[u64], w: usize) -> [usize; 8]
     requires { ⌜ (at + 512 ≤ length (now bytes)) × (w + 64 ≤ length (now words)) ⌝ }
     ensures { λ r. ⌜ (now (bytes .exit) ≡ sets (now (bytes .entry)) at (bytesOf (wordBits (now (words .entry)) w) 512)) × (length r ≡ 8) × ((j : ℕ) → j < 8 → getD r j 0 ≡ ones (wordBits (now (words .entry)) w) (512 * (j + 1))) ⌝ }
 {
     let mut counts = [0usize; 8];
     let mut sum: usize = 0;
     for j in 0..8 {
-        sum += put_part(bytes, at + 64 * j, part_words(words, w + 8 * j));
+        sum += put_block(bytes, at + BLOCK_BYTES * j, block_words(words, w + 8 * j));
         counts[j] = sum;
     }
     counts
@@ -87,7 +94,7 @@ struct Halves {
 }
 
 // An entry from its eight numbers: a from bit 0 on, c1 from bit 44 on, and so on by 12 bits. Those of c2, from bit 56 on, lie in both halves.
-fn halve(a: u64, c1: u64, c2: u64, c3: u64, c4: u64, c5: u64, c6: u64, c7: u64) -> Halves
+fn entry_of(a: u64, c1: u64, c2: u64, c3: u64, c4: u64, c5: u64, c6: u64, c7: u64) -> Halves
     requires { ⌜ (a < 2 ^ 44) × (c1 < 4096) × (c2 < 4096) × (c3 < 4096) × (c4 < 4096) × (c5 < 4096) × (c6 < 4096) × (c7 < 4096) ⌝ }
     ensures { λ r. ⌜ (r .low + 2 ^ 64 * r .high ≡ a + 2 ^ 44 * (c1 + 4096 * (c2 + 4096 * (c3 + 4096 * (c4 + 4096 * (c5 + 4096 * (c6 + 4096 * c7))))))) × (r .low < 2 ^ 64) ⌝ }
 {
@@ -101,12 +108,12 @@ fn halve(a: u64, c1: u64, c2: u64, c3: u64, c4: u64, c5: u64, c6: u64, c7: u64) 
     Halves { low, high }
 }
 
-// An entry from the ones before its block and the ones up to the end of each of the block's parts.
+// An entry from the ones before its superblock and the ones up to the end of each of the superblock's blocks.
 fn entry_halves(sum: usize, counts: [usize; 8]) -> Halves
     requires { ⌜ (sum < 2 ^ 44) × (length counts ≡ 8) × ((j : ℕ) → j < 7 → getD counts j 0 < 4096) ⌝ }
     ensures { λ r. ⌜ (r .low + 2 ^ 64 * r .high ≡ sum + 2 ^ 44 * digits (2 ^ 12) (λ j. getD counts j 0) 7) × (r .low < 2 ^ 64) ⌝ }
 {
-    halve(
+    entry_of(
         sum as u64,
         counts[0] as u64,
         counts[1] as u64,
@@ -118,14 +125,21 @@ fn entry_halves(sum: usize, counts: [usize; 8]) -> Halves
     )
 }
 
-// The block of the 64 words from word w on: its entry from byte a on, its bits from byte b on. `sum` ones lie before it; answers the ones up to
+// The superblock of the 64 words from word w on: its entry from byte a on, its bits from byte b on. `sum` ones lie before it; answers the ones up to
 // its end. The bits pass through a scratch array.
-fn write_block(image: &mut [u8], a: usize, b: usize, words: &[u64], w: usize, sum: usize) -> usize
+fn write_superblock(
+    image: &mut [u8],
+    a: usize,
+    b: usize,
+    words: &[u64],
+    w: usize,
+    sum: usize,
+) -> usize
     requires { ⌜ (a + 16 ≤ b) × (b + 512 ≤ length (now image)) × (w + 64 ≤ length (now words)) × (sum ≤ 134217728) ⌝ }
-    ensures { λ r. ⌜ BlockPut (wordBits (now (words .entry)) w) sum a b (now (image .entry)) (now (image .exit)) r ⌝ }
+    ensures { λ r. ⌜ SuperblockPut (wordBits (now (words .entry)) w) sum a b (now (image .entry)) (now (image .exit)) r ⌝ }
 {
-    let mut scratch = [0u8; 512];
-    let counts = put_block(&mut scratch, 0, words, w);
+    let mut scratch = [0u8; SUPERBLOCK_BYTES];
+    let counts = put_superblock(&mut scratch, 0, words, w);
     let halves = entry_halves(sum, counts);
     put_word(image, a, halves.low);
     put_word(image, a + 8, halves.high);
@@ -133,8 +147,8 @@ fn write_block(image: &mut [u8], a: usize, b: usize, words: &[u64], w: usize, su
     sum + counts[7]
 }
 
-// The same for block e of the first n bits of the words. Where they end inside it, its words are first made zero past them.
-fn write_strip_block(
+// The same for superblock e of the first n bits of the words. Where they end inside it, its words are first made zero past them.
+fn write_strip_superblock(
     image: &mut [u8],
     a: usize,
     b: usize,
@@ -144,23 +158,31 @@ fn write_strip_block(
     sum: usize,
 ) -> usize
     requires { ⌜ (a + 16 ≤ b) × (b + 512 ≤ length (now image)) × (n ≤ 64 * length (now words)) × (n ≤ 134217728) × (e < 32768) × (sum ≤ 134217728) ⌝ }
-    ensures { λ r. ⌜ BlockPut (λ p. cell (stripOf (now (words .entry)) n) (4096 * e + p)) sum a b (now (image .entry)) (now (image .exit)) r ⌝ }
+    ensures { λ r. ⌜ SuperblockPut (λ p. cell (stripOf (now (words .entry)) n) (4096 * e + p)) sum a b (now (image .entry)) (now (image .exit)) r ⌝ }
 {
-    if 4096 * (e + 1) <= n {
-        return write_block(image, a, b, words, 64 * e, sum);
+    if SUPERBLOCK_BITS * (e + 1) <= n {
+        return write_superblock(image, a, b, words, 64 * e, sum);
     }
     let tail = last_words(words, 64 * e, n);
-    write_block(image, a, b, &tail, 0, sum)
+    write_superblock(image, a, b, &tail, 0, sum)
 }
 
 // The entries from byte a on and the bits from byte b on, of the first n bits of the words. Answers their ones.
-fn write_blocks(image: &mut [u8], a: usize, b: usize, words: &[u64], n: usize) -> usize
-    requires { ⌜ (b ≡ a + 16 * blocksOf n) × (b + 512 * blocksOf n ≤ length (now image)) × (n ≤ 64 * length (now words)) × (n ≤ 134217728) ⌝ }
-    ensures { λ r. ⌜ RowPut (cell (stripOf (now (words .entry)) n)) (blocksOf n) a b (now (image .entry)) (now (image .exit)) r ⌝ }
+fn write_superblocks(image: &mut [u8], a: usize, b: usize, words: &[u64], n: usize) -> usize
+    requires { ⌜ (b ≡ a + 16 * superblocksOf n) × (b + 512 * superblocksOf n ≤ length (now image)) × (n ≤ 64 * length (now words)) × (n ≤ 134217728) ⌝ }
+    ensures { λ r. ⌜ RowPut (cell (stripOf (now (words .entry)) n)) (superblocksOf n) a b (now (image .entry)) (now (image .exit)) r ⌝ }
 {
     let mut sum: usize = 0;
-    for e in 0..(n + 4095) / 4096 {
-        sum = write_strip_block(image, a + 16 * e, b + 512 * e, words, n, e, sum);
+    for e in 0..superblocks_of(n) {
+        sum = write_strip_superblock(
+            image,
+            a + ENTRY_BYTES * e,
+            b + SUPERBLOCK_BYTES * e,
+            words,
+            n,
+            e,
+            sum,
+        );
     }
     sum
 }
@@ -170,8 +192,7 @@ pub fn write_record(image: &mut [u8], at: usize, words: &[u64], n: usize, label:
     requires { ⌜ (at + sizeOf n ≤ length (now image)) × (n ≤ 64 * length (now words)) × (n ≤ 134217728) × (label < 4294967296) × (length (now image) ≤ 4294967296) ⌝ }
     ensures { λ _. ⌜ now (image .exit) ≡ sets (now (image .entry)) at (recordOf 0 label (stripOf (now (words .entry)) n)) ⌝ }
 {
-    let a = at + 16;
-    let sum = write_blocks(image, a, a + 16 * ((n + 4095) / 4096), words, n);
+    let sum = write_superblocks(image, at + HEAD_BYTES, at + bits_start(n), words, n);
     put_le(image, at, 4, 0);
     put_le(image, at + 4, 4, label as u64);
     put_le(image, at + 8, 4, n as u64);

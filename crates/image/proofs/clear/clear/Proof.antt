@@ -1,59 +1,66 @@
 -- `image::clear::clear` meets its contract. Assumes nothing.
-use mathlib.Core.Path.{ap, sym, _∙_}
+use mathlib.Core.Path.{_≡_, ap, sym, _∙_}
+use mathlib.Core.Bool.{true, false}
 use mathlib.Core.List.{List}
-use Prim.Native.Nat.{ℕ}
-use borrow.Author.Tests.{le-ltb, lt-ltb}
+use Prim.Native.Nat.{ℕ, _≤_}
+use native.Mathlib.Omega.{arith}
+use lib.ListN.{length}
+use borrow.Author.Tests.{not-true, not-false}
 use Rattle.words.specs.Refusals.{value}
+use Rattle.image.specs.Chain.{goodSize}
 use Rattle.image.specs.Calls.{imageOutcome}
+use Rattle.image.proofs.ChainLaws.{size-facts}
 use Rattle.image.proofs.WriteLaws.{header-stored}
 use borrow.Author.Needs.{needs}
 use Rattle.image.proofs.clear.clear.Statement.{statement}
 use Rattle.image.proofs.clear.clear.Tie as tie
 
+size-good-requires : tie.Need-size-good-requires
+size-good-requires c κs = search needs
+
 returns : tie.Need-returns
 returns c =
-    let e = lt-ltb _ _ (c .if1 .taken) in
-    sym (simp e)
+    let bad : goodSize (length (c .before .before .before .args .image .now)) ≡ false = sym (c .before .size-good .ensures) ∙ not-true _ (c .if1 .taken) in
+    sym (simp bad)
 
-returns-2 : tie.Need-returns-2
-returns-2 c =
-    let e = le-ltb _ _ (c .before .if1 .left) in
-    let f = lt-ltb _ _ (c .if2 .taken) in
-    sym (simp (e, f))
+-- the size is in range
+sized : (c : tie.Else1) → goodSize (length (c .before .before .before .args .image .now)) ≡ true
+sized c = sym (c .before .size-good .ensures) ∙ not-false _ (c .if1 .left)
+
+room : (c : tie.Else1) → 16 ≤ length (c .before .before .before .args .image .now)
+room c = size-facts (length (c .before .before .before .args .image .now)) (sized c) .0
 
 put-le-requires : tie.Need-put-le-requires
-put-le-requires c κs = search needs
+put-le-requires c κs = omega (arith, room (c .before))
 
 put-le-requires-2 : tie.Need-put-le-requires-2
-put-le-requires-2 c κs = search needs
+put-le-requires-2 c κs = omega (arith, room (c .before .before .before .before .before))
 
 put-word-requires : tie.Need-put-word-requires
-put-word-requires c κs = search needs
+put-word-requires c κs = omega (arith, room (c .before .before .before .before .before .before .before .before .before))
 
 same-length : tie.Need-same-length
 same-length c = search needs
 
-returns-3 : tie.Need-returns-3
-returns-3 c =
+returns-2 : tie.Need-returns-2
+returns-2 c =
     let w = c .before .before in
     let p2 = w .before .before .before .before in
     let p1 = p2 .before .before .before .before in
-    let i2 = p1 .before .before in
-    let e = le-ltb _ _ (i2 .before .if1 .left) in
-    let f = le-ltb _ _ (i2 .if2 .left) in
+    let i = p1 .before .before in
     ap (λ (l : List ℕ). imageOutcome (value 16) l)
-    (header-stored (i2 .before .before .before .args .image .now) (p1 .put-le .last .0) (p2 .put-le2 .last .0) (w .put-word .last .0) 0
-    (i2 .before .if1 .left) (p1 .put-le .ensures) (p2 .put-le2 .ensures) (w .put-word .ensures))
-    ∙ sym (simp (e, f))
+    (header-stored (i .before .before .before .args .image .now) (p1 .put-le .last .0) (p2 .put-le2 .last .0) (w .put-word .last .0) 0
+    (room i) (p1 .put-le .ensures) (p2 .put-le2 .ensures) (w .put-word .ensures))
+    ∙ sym (simp (sized i))
 
 pub clear-spec : {M : Type 1} → statement M
 clear-spec =
     tie.close
     (tie.spec
+    size-good-requires
     returns
-    returns-2
     put-le-requires
     put-le-requires-2
     put-word-requires
     same-length
-    returns-3)
+    returns-2)

@@ -1,74 +1,62 @@
--- `image::write::put_block` meets its contract. The invariant: the parts before j are stored and counted. Assumes nothing.
+-- `image::write::put_block` meets its contract. The invariant: the words before j are stored and counted. Assumes nothing.
 use mathlib.Core.Path.{_≡_, refl}
-use Prim.Native.Nat.{_+_, _-_, _*_}
+use Prim.Native.Nat.{_+_, _-_, _*_, _≤_}
 use native.Mathlib.Omega.{arith}
-use lib.ListN.{length, set}
+use lib.ListN.{length}
+use Rattle.words.specs.Bits.{bitAt}
 use Rattle.words.proofs.WordLaws.{bitAt-le}
-use Rattle.image.specs.Writing.{wordBits}
-use Rattle.image.proofs.WriteLaws.{Parts, parts-none, parts-more, parts-done, bits-length, bits-le}
+use Rattle.image.specs.Writing.{BitsPut}
+use Rattle.image.proofs.WriteLaws.{bits-none, bits-length, bits-le, bits-size, block-word}
 use borrow.Author.Needs.{needs}
 use Rattle.image.proofs.write.put_block.Statement.{statement}
 use Rattle.image.proofs.write.put_block.Tie as tie
 
 abbrev Inv-loop : tie.InvT-loop
-Inv-loop bytes₀ at words w counts₀ sum₀ j₀ bytes counts sum j = (length bytes ≡ length bytes₀) × Parts (wordBits words w) at bytes₀ bytes counts sum j
+Inv-loop bytes₀ at block sum₀ j₀ bytes sum j = (j ≤ 8) × (length bytes ≡ length bytes₀) × BitsPut (bitAt block) (8 * j) at bytes₀ bytes sum
 
 abbrev μ-loop : tie.MeasureT-loop
-μ-loop bytes₀ at words w counts₀ sum₀ j₀ bytes counts sum j = 8 - j
+μ-loop bytes₀ at block sum₀ j₀ bytes sum j = 8 - j
 
 loop-holds : tie.Need-loop-holds Inv-loop μ-loop
-loop-holds c = (refl, parts-none _ _ _ _ refl)
+loop-holds c = (omega arith, refl, bits-none _ _ _)
 
-mul-put-part : tie.Need-mul-put-part Inv-loop μ-loop
-mul-put-part c = search needs
+mul-x : tie.Need-mul-x Inv-loop μ-loop
+mul-x c = search needs
 
-add-put-part : tie.Need-add-put-part Inv-loop μ-loop
-add-put-part c = search needs
+array-read-x : tie.Need-array-read-x Inv-loop μ-loop
+array-read-x c = search needs
 
-mul-part-words : tie.Need-mul-part-words Inv-loop μ-loop
-mul-part-words c = search needs
+mul-put-word : tie.Need-mul-put-word Inv-loop μ-loop
+mul-put-word c = search needs
 
-add-part-words : tie.Need-add-part-words Inv-loop μ-loop
-add-part-words c = search needs
+add-put-word : tie.Need-add-put-word Inv-loop μ-loop
+add-put-word c = search needs
 
-part-words-requires : tie.Need-part-words-requires Inv-loop μ-loop
-part-words-requires c κs = search needs
+put-word-requires : tie.Need-put-word-requires Inv-loop μ-loop
+put-word-requires c κs = search needs
 
-put-part-requires : tie.Need-put-part-requires Inv-loop μ-loop
-put-part-requires c κs =
-    let l = c .before .before .before .loop in
-    (omega (arith, l .inv .0), c .part-words .ensures .0)
+ones-of-requires : tie.Need-ones-of-requires Inv-loop μ-loop
+ones-of-requires c κs = search needs
 
--- one part more
-next : (c : tie.After-slice-known2 Inv-loop μ-loop)
-    → Parts (wordBits (c .before .before .before .before .before .before .before .before .before .args .words .now) (c .before .before .before .before .before .before .before .before .before .args .w))
-    (c .before .before .before .before .before .before .before .before .before .args .at)
-    (c .before .before .before .before .before .before .before .before .before .args .bytes .now)
-    (c .before .before .put-part .last .0)
-    (set (c .before .before .before .before .before .before .loop .counts) (c .before .before .before .before .before .before .loop .j) (c .before .before .before .before .before .before .loop .sum + c .before .before .put-part .result))
-    (c .before .before .before .before .before .before .loop .sum + c .before .before .put-part .result)
-    (c .before .before .before .before .before .before .loop .j + 1)
+-- one word more
+next : (c : tie.After-ones-of Inv-loop μ-loop)
+    → BitsPut (bitAt (c .before .before .before .before .before .before .before .before .args .t3))
+    (8 * (c .before .before .before .before .before .before .loop .j + 1))
+    (c .before .before .before .before .before .before .before .before .args .at)
+    (c .before .before .before .before .before .before .before .before .args .bytes .now)
+    (c .before .before .before .put-word .last .0)
+    (c .before .before .before .before .before .before .loop .sum + c .ones-of .result)
 next c =
-    let put = c .before .before in
-    let words = put .before in
-    let test = words .before .before in
-    let l = test .before .loop in
-    let a = test .before .before .before .before .args in
-    parts-more (a .words .now) (a .w) (a .at) (a .bytes .now) (l .bytes) _ (l .counts) (words .part-words .result) (l .sum) (l .j) _ (l .inv .1)
-    (test .loop-test .taken) (words .part-words .ensures .1) (put .put-part .ensures)
+    let l = c .before .before .before .before .before .before .loop in
+    let a = c .before .before .before .before .before .before .before .before .args in
+    block-word (a .t3) (a .at) (a .bytes .now) (l .bytes) _ (l .j) (l .sum) _ (l .inv .2) (c .before .before .before .put-word .ensures) (c .ones-of .ensures)
 
 add-sum : tie.Need-add-sum Inv-loop μ-loop
 add-sum c =
     let l = c .before .before .before .before .before .before .loop in
-    let a = c .before .before .before .before .before .before .before .before .before .args in
-    let b = bits-le _ _ _ _ (64 * (l .j + 1)) _ (next c .put) (λ p. bitAt-le (a .words .now) (64 * a .w + p)) in
+    let a = c .before .before .before .before .before .before .before .before .args in
+    let b = bits-le _ _ _ _ (8 * (l .j + 1)) (l .sum + c .ones-of .result) (next c) (bitAt-le (a .t3)) in
     omega (arith, b)
-
-mul-counts : tie.Need-mul-counts Inv-loop μ-loop
-mul-counts c = search needs
-
-array-write-counts : tie.Need-array-write-counts Inv-loop μ-loop
-array-write-counts c = omega arith
 
 add-j : tie.Need-add-j Inv-loop μ-loop
 add-j c = search needs
@@ -77,7 +65,7 @@ loop-less : tie.Need-loop-less Inv-loop μ-loop
 loop-less c = search needs
 
 loop-again : tie.Need-loop-again Inv-loop μ-loop
-loop-again c = (bits-length _ _ _ _ _ _ (next c .put), next c)
+loop-again c = (omega arith, bits-length _ _ _ _ _ _ (next c), next c)
 
 same-length : tie.Need-same-length Inv-loop μ-loop
 same-length c = search needs
@@ -85,7 +73,7 @@ same-length c = search needs
 returns : tie.Need-returns Inv-loop μ-loop
 returns c =
     let l = c .before .loop in
-    parts-done _ _ _ _ (l .counts) (l .sum) (l .j) (l .inv .1) (c .loop-test .left)
+    bits-size _ _ _ _ (8 * l .j) 64 _ (l .inv .2) (omega arith)
 
 pub put-block-spec : {M : Type 1} → statement M
 put-block-spec =
@@ -94,15 +82,13 @@ put-block-spec =
     Inv-loop
     μ-loop
     loop-holds
-    mul-put-part
-    add-put-part
-    mul-part-words
-    add-part-words
-    part-words-requires
-    put-part-requires
+    mul-x
+    array-read-x
+    mul-put-word
+    add-put-word
+    put-word-requires
+    ones-of-requires
     add-sum
-    mul-counts
-    array-write-counts
     add-j
     loop-less
     loop-again

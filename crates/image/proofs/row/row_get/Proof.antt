@@ -1,0 +1,71 @@
+-- `image::row::row_get` meets its contract: the promise of `part_get`, carried over to the label's row. Assumes nothing.
+use mathlib.Core.Path.{_≡_, ap}
+use mathlib.Core.List.{List, [], _∷_}
+use mathlib.Core.Option.{Option}
+use Prim.Native.Nat.{ℕ}
+use native.Mathlib.Omega.{arith}
+use lib.ListN.{length}
+use Rattle.words.specs.Strip.{cell}
+use Rattle.words.specs.Refusals.{Line, unless, value, refused, toldOf}
+use Rattle.words.specs.Calls.{belowLine}
+use Rattle.image.specs.Rows.{rowBits}
+use Rattle.image.specs.Calls.{rowLength}
+use Rattle.image.proofs.ChainLaws.{RecordFacts, opened-record}
+use Rattle.image.proofs.RowLaws.{part-long, row-refused, row-held, row-told}
+use borrow.Author.Needs.{needs}
+use Rattle.image.proofs.row.row_get.Statement.{statement}
+use Rattle.image.proofs.row.row_get.Tie as tie
+
+open-row-requires : tie.Need-open-row-requires
+open-row-requires c κs = search needs
+
+enum-known-o : tie.Need-enum-known-o
+enum-known-o c = search needs
+
+enum-told : tie.Need-enum-told
+enum-told c = search needs
+
+-- the lines after those of the opening, for a row of n bits
+abbrev lines : ℕ → ℕ → List Line
+lines i n = belowLine n i ∷ []
+
+returns : tie.Need-returns
+returns c =
+    let a = c .before .before .before .before .args in
+    row-refused (a .image .now) (a .label) _ _ (lines (a .i) (rowLength (a .image .now) (a .label))) (c .before .before .open-row .ensures) (c .enum-told .given .1) _
+
+-- the record at the place that the opening gave
+known : (c : tie.After-known-told) → RecordFacts (c .before .before .before .before .before .args .image .now) (c .before .o .given .0 .0)
+known c = let a = c .before .before .before .before .before .args in opened-record (a .image .now) (a .label) _ _ (c .before .before .before .open-row .ensures) (c .before .o .given .1)
+
+record-part-requires : tie.Need-record-part-requires
+record-part-requires c κs = (known c .room, known c .inside)
+
+index-at-requires : tie.Need-index-at-requires
+index-at-requires c κs =
+    let a = c .before .before .before .before .before .before .args in
+    omega (arith, ap length (c .record-part .ensures), part-long (a .image .now) (c .before .before .o .given .0 .0) (known (c .before)))
+
+part-get-requires : tie.Need-part-get-requires
+part-get-requires c κs = search needs
+
+returns-2 : tie.Need-returns-2
+returns-2 c =
+    let a = c .before .before .before .before .before .before .before .before .args in
+    let held =
+    row-held (a .image .now) (a .label) _ _ _ _ (c .before .before .before .before .before .before .open-row .ensures) (c .before .before .before .before .o .given .1)
+    (c .before .before .record-part .ensures) (c .before .index-at .ensures .0) in
+    row-told held (λ (p : List ℕ) (n : ℕ) (t : Option ℕ). toldOf (c .part-get .result) ≡ unless t refused (value (cell (rowBits p n) (a .i)))) (lines (a .i)) (c .part-get .ensures)
+
+pub row-get-spec : {M : Type 1} → statement M
+row-get-spec =
+    tie.close
+    (tie.spec
+    open-row-requires
+    enum-known-o
+    enum-told
+    returns
+    record-part-requires
+    index-at-requires
+    part-get-requires
+    returns-2)

@@ -1,0 +1,88 @@
+-- `image::write::write_superblock` meets its contract. Assumes nothing.
+use mathlib.Core.Path.{sym, _∙_}
+use Prim.Native.Nat.{ℕ, _+_, _*_, _≤_}
+use native.Mathlib.Omega.{arith}
+use lib.Dec.{lit<}
+use Rattle.words.specs.Bits.{ones}
+use Rattle.words.proofs.Sums.{ones-le}
+use Rattle.words.proofs.WordLaws.{bitAt-le}
+use Rattle.image.specs.Writing.{wordBits}
+use Rattle.image.specs.Layout.{bytesOf}
+use Rattle.image.proofs.PutLaws.{sets-all}
+use Rattle.image.proofs.WriteLaws.{length-bytes, superblock-stored}
+use borrow.Author.Needs.{needs}
+use Rattle.image.proofs.write.write_superblock.Statement.{statement}
+use Rattle.image.proofs.write.write_superblock.Tie as tie
+
+slice-aggregate-put-superblock : tie.Need-slice-aggregate-put-superblock
+slice-aggregate-put-superblock c = search needs
+
+put-superblock-requires : tie.Need-put-superblock-requires
+put-superblock-requires c κs = search needs
+
+entry-halves-requires : tie.Need-entry-halves-requires
+entry-halves-requires c κs =
+    let a = c .before .before .before .before .before .args in
+    let g = wordBits (a .words .now) (a .w) in
+    let p = c .before .put-superblock in
+    let small : (j : ℕ) → ones g (512 * (j + 1)) ≤ 512 * (j + 1) = λ j. ones-le g (512 * (j + 1)) (λ p. bitAt-le (a .words .now) (64 * a .w + p)) in
+    (omega arith, p .ensures .1, λ j l. omega (arith, p .ensures .2 j (omega arith), small j))
+
+put-word-requires : tie.Need-put-word-requires
+put-word-requires c κs = search needs
+
+add-put-word : tie.Need-add-put-word
+add-put-word c = search needs
+
+put-word-requires-2 : tie.Need-put-word-requires-2
+put-word-requires-2 c κs = search needs
+
+slice-aggregate-put-bytes : tie.Need-slice-aggregate-put-bytes
+slice-aggregate-put-bytes c = search needs
+
+put-bytes-requires : tie.Need-put-bytes-requires
+put-bytes-requires c κs = search needs
+
+array-read-result : tie.Need-array-read-result
+array-read-result c = search needs
+
+add-result : tie.Need-add-result
+add-result c =
+    let pb = c .before .before .before .before .before .before .before .before .before .before .before .before .before .before .before in
+    let a = pb .before .before .before .before .args in
+    omega (arith, pb .put-superblock .ensures .2 7 (lit< tt), ones-le (wordBits (a .words .now) (a .w)) 4096 (λ p. bitAt-le (a .words .now) (64 * a .w + p)))
+
+same-length : tie.Need-same-length
+same-length c = search needs
+
+returns : tie.Need-returns
+returns c =
+    let put = c .before .before in
+    let high = put .before .before .before .before .before in
+    let low = high .before .before .before .before in
+    let halves = low .before .before in
+    let pb = halves .before .before in
+    let a = pb .before .before .before .before .args in
+    let g = wordBits (a .words .now) (a .w) in
+    superblock-stored g (a .sum) (a .a) (a .b) (halves .entry-halves .result .low) (halves .entry-halves .result .high) (a .image .now)
+    (low .put-word .last .0) (high .put-word2 .last .0) (put .put-bytes .last .0) (pb .put-superblock .last .0) (pb .put-superblock .result)
+    (pb .put-superblock .ensures .0 ∙ sets-all (bytesOf g 512) _ (sym (length-bytes g 512)))
+    (pb .put-superblock .ensures .2) (halves .entry-halves .ensures .0) (halves .entry-halves .ensures .1)
+    (low .put-word .ensures) (high .put-word2 .ensures) (put .put-bytes .ensures)
+
+pub write-superblock-spec : {M : Type 1} → statement M
+write-superblock-spec =
+    tie.close
+    (tie.spec
+    slice-aggregate-put-superblock
+    put-superblock-requires
+    entry-halves-requires
+    put-word-requires
+    add-put-word
+    put-word-requires-2
+    slice-aggregate-put-bytes
+    put-bytes-requires
+    array-read-result
+    add-result
+    same-length
+    returns)

@@ -1,0 +1,46 @@
+-- Rows written out over a base. Assumes nothing.
+use Prim.Native.Nat.{ℕ, _+_, _/_}
+use mathlib.Core.Bool.{cond}
+use mathlib.Core.List.{List, [], _∷_, _++_}
+use mathlib.Core.Option.{Option, some, none}
+use lib.ListN.{length, drop}
+use lib.Dec.{eqb}
+use Rattle.image.specs.Layout.{unitBytes, sizeOf, recordOf}
+use Rattle.image.specs.Chain.{headerOf}
+
+-- a row of the shelf: a label and bits
+pub record Labelled : Type 0 where
+  pub label : ℕ
+  pub bits : List ℕ
+
+-- the units of a row's record
+abbrev pub unitsOf : Labelled → ℕ
+unitsOf r = sizeOf (length (r .bits)) / unitBytes
+
+-- the index u, or zero where no row follows
+abbrev pub indexFor : ℕ → List Labelled → ℕ
+indexFor u [] = 0
+indexFor u (r ∷ rs) = u
+
+-- the records of rows in order, the first at unit u, each where the one before ends
+unfoldable pub recordsFrom : ℕ → List Labelled → List ℕ
+recordsFrom u [] = []
+recordsFrom u (r ∷ rs) = recordOf (indexFor (u + unitsOf r) rs) (r .label) (r .bits) ++ recordsFrom (u + unitsOf r) rs
+
+-- the header, then the records, the first at unit 1
+unfoldable pub imageOf : List Labelled → List ℕ
+imageOf rs = headerOf (indexFor 1 rs) ++ recordsFrom 1 rs
+
+-- F written out over B: every later byte as in B
+abbrev pub written : List Labelled → List ℕ → List ℕ
+written rs base = imageOf rs ++ drop (length (imageOf rs)) base
+
+-- the sizes of the rows' records, added
+unfoldable pub sizesOf : List Labelled → ℕ
+sizesOf [] = 0
+sizesOf (r ∷ rs) = sizeOf (length (r .bits)) + sizesOf rs
+
+-- the row of a label
+unfoldable pub rowOf : ℕ → List Labelled → Option Labelled
+rowOf label [] = none
+rowOf label (r ∷ rs) = cond (eqb (r .label) label) (some r) (rowOf label rs)

@@ -1,0 +1,161 @@
+// Reading the part of a row of n bits: entries, then at most 64 bytes of bits.
+ghost use mathlib.Core.Path.{_≡_};
+ghost use Prim.Native.Nat.{ℕ, _+_, _*_, _/_, _^_, _<_, _≤_};
+ghost use lib.ListN.{length};
+ghost use Rattle.words.specs.Bits.{bitAt, ones};
+ghost use Rattle.words.specs.Strip.{cell, rankOf, selectOf};
+ghost use Rattle.words.specs.Words.{placeIn};
+ghost use Rattle.words.specs.Working.{atMost};
+ghost use Rattle.image.specs.Bytes.{bitFrom};
+ghost use Rattle.image.specs.Layout.{bitsStart, sizeOf};
+ghost use Rattle.image.specs.Chain.{onesAt};
+ghost use Rattle.image.specs.Rows.{rowBits, Right};
+ghost use Rattle.image.specs.Reading.{blockField, entryOnes, entryValues, Halved};
+use super::bytes::byte_at;
+use super::bytes::index_at;
+use super::bytes::u64_at;
+use super::layout::BLOCK_BYTES;
+use super::layout::ENTRY_BYTES;
+use super::layout::HEAD_BYTES;
+use super::layout::bits_start;
+use words::bits::bit_of;
+use words::bits::of_value;
+use words::block::block_rank;
+use words::block::block_select;
+use words::handle::BLOCK_BITS;
+
+// Bit i of a row.
+pub fn part_bit(part: &[u8], n: usize, i: usize) -> u64
+    requires { ⌜ (length (now part) ≡ sizeOf n) × (n ≤ 134217728) × (i < n) ⌝ }
+    ensures { λ r. ⌜ r ≡ bitFrom (now (part .entry)) (bitsStart n) i ⌝ }
+{
+    bit_of(byte_at(part, bits_start(n) + i / 8), i % 8)
+}
+
+// The ones of an entry's superblock before its block j, of an entry in two halves: blocks 0 to 4 from the 52 bits past the lowest 44, with 12 zeros below them,
+// the others from the high half.
+fn block_field(low: u64, high: u64, j: usize) -> u64
+    requires { ⌜ j < 8 ⌝ }
+    ensures { λ r. ⌜ (r ≡ blockField (low + 2 ^ 64 * high) j) × (r < 4096) ⌝ }
+{
+    if j < 5 {
+        return ((((low >> 44) << 12) + (high << 32)) >> (12 * j)) % 4096;
+    }
+    (high >> (12 * j - 32)) % 4096
+}
+
+// The ones before block m, as the entry of its superblock says. No other function reads an entry.
+fn entry_ones(part: &[u8], m: usize) -> usize
+    requires { ⌜ 32 + 16 * (m / 8) ≤ length (now part) ⌝ }
+    ensures { λ r. ⌜ (r ≡ entryOnes (now (part .entry)) m) × (r < 17592186048512) ⌝ }
+{
+    let at = HEAD_BYTES + ENTRY_BYTES * (m / 8);
+    let low = u64_at(part, at);
+    let high = u64_at(part, at + 8);
+    (low % 17592186044416 + block_field(low, high, m % 8)) as usize
+}
+
+// The 512 bits from byte `at` on, as eight words.
+fn block_at(part: &[u8], at: usize) -> [u64; 8]
+    requires { ⌜ at + 64 ≤ length (now part) ⌝ }
+    ensures { λ r. ⌜ (length r ≡ 8) × ((p : ℕ) → p < 512 → bitAt r p ≡ bitFrom (now (part .entry)) at p) ⌝ }
+{
+    let mut block = [0u64; 8];
+    for j in 0..8 {
+        block[j] = u64_at(part, at + 8 * j);
+    }
+    block
+}
+
+// The ones of a row before position i: those before the block of position i - 1, and those in it.
+pub fn part_ones_before(part: &[u8], n: usize, i: usize) -> usize
+    requires { ⌜ (length (now part) ≡ sizeOf n) × (n ≤ 134217728) × (i ≤ n) ⌝ }
+    ensures { λ r. ⌜ (r ≤ 70368744177664) × (Right (now (part .entry)) n → r ≡ ones (cell (rowBits (now (part .entry)) n)) i) ⌝ }
+{
+    if i == 0 {
+        return 0;
+    }
+    let m = (i - 1) / BLOCK_BITS;
+    let block = block_at(part, bits_start(n) + BLOCK_BYTES * m);
+    entry_ones(part, m) + block_rank(&block[..], i - BLOCK_BITS * m)
+}
+
+// The ones of a row, as its record says.
+pub fn part_ones(part: &[u8]) -> usize
+    requires { ⌜ 16 ≤ length (now part) ⌝ }
+    ensures { λ r. ⌜ (r ≡ onesAt (now (part .entry)) 0) × (r < 4294967296) ⌝ }
+{
+    index_at(part, 12)
+}
+
+// The number of v before block m, as the entries say.
+fn entry_values(part: &[u8], v: u64, m: usize) -> usize
+    requires { ⌜ (32 + 16 * (m / 8) ≤ length (now part)) × (m < 262144) ⌝ }
+    ensures { λ r. ⌜ r ≡ entryValues (now (part .entry)) v m ⌝ }
+{
+    of_value(v, BLOCK_BITS * m, entry_ones(part, m))
+}
+
+// 1 where at most k of v come before block m, as the entries say, else 0: a number, so that no branch depends on it.
+fn reached(part: &[u8], v: u64, m: usize, k: usize) -> usize
+    requires { ⌜ (32 + 16 * (m / 8) ≤ length (now part)) × (m < 262144) ⌝ }
+    ensures { λ r. ⌜ r ≡ atMost (entryValues (now (part .entry)) v) k m ⌝ }
+{
+    (entry_values(part, v, m) <= k) as usize
+}
+
+// Of `count` superblocks the one with the k-th v, as the entries say: by steps of half the length each.
+fn superblock_with(part: &[u8], count: usize, v: u64, k: usize) -> usize
+    requires { ⌜ (0 < count) × (count ≤ 32768) × (16 + 16 * count ≤ length (now part)) ⌝ }
+    ensures { λ r. ⌜ (r < count) × Halved (λ b. entryValues (now (part .entry)) v (8 * b)) count k r (r + 1) ⌝ }
+{
+    let mut lo: usize = 0;
+    let mut t: usize = 15;
+    while 0 < t {
+        t -= 1;
+        let mid = lo + (1usize << t);
+        if mid < count {
+            lo += reached(part, v, 8 * mid, k) << t;
+        }
+    }
+    lo
+}
+
+// Of `count` blocks the one with the k-th v: in the superblock with it, by three steps more.
+fn block_with(part: &[u8], count: usize, v: u64, k: usize) -> usize
+    requires { ⌜ (0 < count) × (count ≤ 262144) × (16 + 16 * ((count + 7) / 8) ≤ length (now part)) ⌝ }
+    ensures { λ r. ⌜ (r < count) × Halved (entryValues (now (part .entry)) v) count k r (r + 1) ⌝ }
+{
+    let mut lo = 8 * superblock_with(part, (count + 7) / 8, v, k);
+    let mut t: usize = 3;
+    while 0 < t {
+        t -= 1;
+        let mid = lo + (1usize << t);
+        if mid < count {
+            lo += reached(part, v, mid, k) << t;
+        }
+    }
+    lo
+}
+
+// The position of the k-th v of a row, k from 0, or n where the entries lead nowhere.
+pub fn part_position(part: &[u8], n: usize, v: u64, k: usize) -> usize
+    requires { ⌜ (length (now part) ≡ sizeOf n) × (n ≤ 134217728) × (v ≤ 1) ⌝ }
+    ensures { λ r. ⌜ (r ≤ n) × (Right (now (part .entry)) n → k < rankOf (cell (rowBits (now (part .entry)) n)) v n → r ≡ placeIn n (selectOf (cell (rowBits (now (part .entry)) n)) n v k)) ⌝ }
+{
+    if n == 0 {
+        return n;
+    }
+    let m = block_with(part, (n + (BLOCK_BITS - 1)) / BLOCK_BITS, v, k);
+    let said = entry_values(part, v, m);
+    if k < said {
+        return n;
+    }
+    let block = block_at(part, bits_start(n) + BLOCK_BYTES * m);
+    let p = block_select(&block[..], v, k - said);
+    if p == BLOCK_BITS {
+        return n;
+    }
+    let position = BLOCK_BITS * m + p;
+    if position < n { position } else { n }
+}
