@@ -1,4 +1,5 @@
-/* Keeps one stroke strip by the proved calls: lay, add, turn, count, find, look, next and prior, and what they refuse. */
+/* Keeps one stroke strip by the proved calls: lay, add, turn, count, find, look, next and prior; freezes it into an image
+ * and reads it back; and shows what the calls refuse. */
 #include "testing.h"
 
 #include <inttypes.h>
@@ -11,6 +12,9 @@ static uint64_t words[WORDS];
 static uint32_t counters[COUNTERS];
 static size_t length;
 static uint64_t out[5];
+
+/* An image with room for one row. */
+static uint8_t image[560];
 
 #define RECORD words, WORDS, counters, COUNTERS
 
@@ -33,6 +37,12 @@ static uint64_t look(size_t i) { return strip_get(CAPACITY, length, words, WORDS
 static uint64_t next(uint64_t v, size_t i) { return strip_successor(CAPACITY, length, words, WORDS, v, i); }
 static uint64_t prior(uint64_t v, size_t i) { return strip_predecessor(CAPACITY, length, words, WORDS, v, i); }
 
+static uint64_t clear(void) { return image_clear(image, sizeof image); }
+static uint64_t freeze(size_t label) { return image_freeze(CAPACITY, length, words, WORDS, image, sizeof image, label); }
+static uint64_t row_look(size_t label, size_t i) { return image_row_get(image, sizeof image, label, i); }
+static uint64_t row_count(size_t label, uint64_t v, size_t i) { return image_row_rank(image, sizeof image, label, v, i); }
+static uint64_t row_find(size_t label, uint64_t v, size_t k) { return image_row_select(image, sizeof image, label, v, k); }
+
 /* One line: the call, its answer or its refusal, and what is asked in plain words. */
 static void show(const char *call, uint64_t answer, const char *meaning)
 {
@@ -41,7 +51,7 @@ static void show(const char *call, uint64_t answer, const char *meaning)
         snprintf(text, sizeof text, "refused %" PRIu64, answer - (UINT64_C(1) << 32));
     else
         snprintf(text, sizeof text, "%" PRIu64, answer);
-    printf("  %-14s %-10s %s\n", call, text, meaning);
+    printf("  %-18s %-10s %s\n", call, text, meaning);
 }
 
 #define SHOW(call, meaning) show(#call, call, meaning)
@@ -66,17 +76,27 @@ int main(void)
 
     printf("\nStrokes judged anew later:\n\n");
     SHOW(turn(3), "stroke 3 was a misfire after all: its bit is now 1");
-    printf("  %-14s %-10" PRIu64 " %s\n", "", out[2], "so many counters moved with it, each by one");
+    printf("  %-18s %-10" PRIu64 " %s\n", "", out[2], "so many counters moved with it, each by one");
     SHOW(turn(6), "and so was stroke 6");
     SHOW(count(1, 8), "misfires in the first 8 strokes now");
     SHOW(find(1, 7), "the misfire with 7 before it now");
     SHOW(check(), "the record fits, and holds so many misfires");
+
+    printf("\nFrozen in harbour, and read by the fitter's display:\n\n");
+    SHOW(clear(), "the bytes of an empty image's header");
+    SHOW(freeze(3), "the strip is a row of the image, as label 3, at this unit");
+    SHOW(row_look(3, 6), "its stroke 6");
+    SHOW(row_count(3, 1, 8), "its misfires in the first 8 strokes");
+    SHOW(row_find(3, 1, 7), "its misfire with 7 before it");
 
     printf("\nA call that can't be answered is refused, and says why:\n\n");
     SHOW(count(1, 18), "there are 17 strokes");
     SHOW(find(1, 12), "there are 12 misfires, the first with 0 before it");
     SHOW(add(2), "a stroke is 0 or 1");
     SHOW(lay(500), "500 is not a multiple of 512");
+    SHOW(freeze(3), "the image has a row of that label");
+    SHOW(freeze(4), "and no room for another");
+    SHOW(row_look(5, 0), "no row has this label");
     counters[9]++;
     SHOW(check(), "one counter was changed from outside");
     return 0;

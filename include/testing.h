@@ -1,4 +1,4 @@
-/* The proved calls on a strip, as in target/staticlib/libtesting.a.
+/* The proved calls on a strip and on an image of frozen rows, as in target/staticlib/libtesting.a.
  *
  * A strip is `length` bits, position 0 first; 1 is a misfire, 0 a good firing. Position p is bit p % 64 of
  * words[p / 64]; bit 0 has weight 1. Words number capacity / 64. A record is the words with the counters over them, as
@@ -9,7 +9,7 @@
  *   1  capacity not a multiple of 512 from 512 to 134,217,728, or length above capacity
  *   2  words not exactly capacity / 64
  *   3  counters not exactly as many as the capacity needs
- *   4  a position above the length; for strip_get and strip_flip also at it
+ *   4  a position above the length; for look and turn also at it
  *   5  a span whose start is above its end
  *   6  no such stroke
  *   7  the strip is full
@@ -17,7 +17,8 @@
  *   9  the record does not fit: a one past the length, or a wrong counter
  *  10  no sound chain, or a part that is not one record of the length held
  *  11  a label not from 1 to 64
- *  13  no room
+ *  12  a row has the label already
+ *  13  clear: an image under 16 or over 2^32 bytes; freeze: no room for the record
  *  14  no row has the label
  *  15  a wrong row: its ones, entries or padding are not those of its bits
  *
@@ -49,7 +50,7 @@ uint64_t strip_predecessor(size_t capacity, size_t length, const uint64_t *words
 size_t strip_select_in_word(uint64_t x, size_t k);
 
 /* ---- The calls that read a record. They write nothing, and answer the value, or 2^32 plus the refusal's number. On a
- * record that does not fit, strip_rank answers at most the length, or 9; strip_select a position below the length, 6 or 9. */
+ * record that does not fit, strip_rank answers at most i, or 9; strip_select a position below the length, 6 or 9. */
 
 /* count(v, i): how many of the first i bits equal v. Refusals: 1, 2, 3, 8, 4, 9. */
 uint64_t strip_rank(size_t capacity, size_t length, const uint64_t *words, size_t word_count, const uint32_t *counters,
@@ -77,12 +78,12 @@ uint64_t strip_verify(size_t capacity, size_t length, const uint64_t *words, siz
 void strip_create(size_t capacity, uint64_t *words, size_t word_count, uint32_t *counters, size_t counter_count,
                   uint64_t *out, size_t room);
 
-/* add(v): appends v. Values: its position, and the number of counters changed. Refusals: 1, 2, 3, 8, 7, 9. */
+/* add(v): appends v. Values: its position, and the number of counters changed. Refusals: 1, 2, 3, 8, 7. */
 void strip_push(size_t capacity, size_t length, uint64_t *words, size_t word_count, uint32_t *counters,
                 size_t counter_count, uint64_t v, uint64_t *out, size_t room);
 
 /* turn(i): replaces the bit at position i by its opposite. Values: the new bit, and the number of counters changed.
- * Refusals: 1, 2, 3, 4, 9. */
+ * Refusals: 1, 2, 3, 4. */
 void strip_flip(size_t capacity, size_t length, uint64_t *words, size_t word_count, uint32_t *counters,
                 size_t counter_count, size_t i, uint64_t *out, size_t room);
 
@@ -96,14 +97,31 @@ void strip_fill(size_t capacity, size_t length, uint64_t *words, size_t word_cou
 void strip_truncate(size_t capacity, size_t length, uint64_t *words, size_t word_count, uint32_t *counters,
                     size_t counter_count, size_t n, uint64_t *out, size_t room);
 
-/* ---- The calls on an image of `size` bytes, and on a row's own part of it with the length held for it. They answer the
- * value, or 2^32 plus the refusal's number. */
+/* ---- The calls on an image of `size` bytes, and on a row's own part of it with the length n, in bits, held for it. They answer the
+ * value, or 2^32 plus the refusal's number. On a wrong row a count is at most i, or 15; a find is a position below the
+ * length, 6 or 15; a look reads the bit. On every other row 15 never occurs, whatever the rows beside it hold. */
 
 /* clear: writes the header of an empty chain, and no other byte. Value: 16. Refusals: 13. */
 uint64_t image_clear(uint8_t *image, size_t size);
 
+/* freeze(label): writes the strip's record at the last record's end, or at unit 1, and its unit index over the zero that
+ * ended the chain; no other byte. It reads the words only, and ignores the bits past the length. A unit is 16 bytes.
+ * Value: the unit index. Refusals: 1, 2, 10, 11, 12, 13; no byte then changes. */
+uint64_t image_freeze(size_t capacity, size_t length, const uint64_t *words, size_t word_count, uint8_t *image,
+                      size_t size, size_t label);
+
 /* Opening: the byte where the label's record starts. Refusals: 10, 11, 14. */
 uint64_t image_open(const uint8_t *image, size_t size, size_t label);
+
+/* row look(i): the bit at position i of the label's row. Refusals: 10, 11, 14, 4. */
+uint64_t image_row_get(const uint8_t *image, size_t size, size_t label, size_t i);
+
+/* row count(v, i): how many of the first i bits of the label's row equal v. Refusals: 10, 11, 14, 8, 4, 15. */
+uint64_t image_row_rank(const uint8_t *image, size_t size, size_t label, uint64_t v, size_t i);
+
+/* row find(v, k): the position in the label's row that holds v and has k of v before it. Refusals: 10, 11, 14, 8, 6,
+ * 15. */
+uint64_t image_row_select(const uint8_t *image, size_t size, size_t label, uint64_t v, size_t k);
 
 /* look(i): the bit at position i. Refusals: 10, 4. */
 uint64_t image_part_get(const uint8_t *part, size_t size, size_t n, size_t i);
@@ -113,6 +131,15 @@ uint64_t image_part_rank(const uint8_t *part, size_t size, size_t n, uint64_t v,
 
 /* find(v, k): the position that holds v and has k of v before it. Refusals: 10, 8, 6, 15. */
 uint64_t image_part_select(const uint8_t *part, size_t size, size_t n, uint64_t v, size_t k);
+
+/* Opening a row, then look(i) on it; a refused opening's row is empty, and gets 10. Refusals: 10, 4. */
+uint64_t image_opened_get(const uint8_t *image, size_t size, size_t label, size_t i);
+
+/* Opening a row, then count(v, i) on it. Refusals: 10, 8, 4, 15. */
+uint64_t image_opened_rank(const uint8_t *image, size_t size, size_t label, uint64_t v, size_t i);
+
+/* Opening a row, then find(v, k) on it. Refusals: 10, 8, 6, 15. */
+uint64_t image_opened_select(const uint8_t *image, size_t size, size_t label, uint64_t v, size_t k);
 
 #ifdef __cplusplus
 }

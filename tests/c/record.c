@@ -69,7 +69,7 @@ static void room(size_t c, size_t n)
 }
 
 /* A full strip of ones: the length is the capacity, and an empty span lays the counters. */
-static void lay_full(size_t c, size_t n)
+static void full_strip(size_t c, size_t n)
 {
     room(c, n);
     memset(words, 0xff, word_count * sizeof *words);
@@ -150,12 +150,12 @@ int main(void)
     EXPECT(verify(), 1);
 
     /* P9, P10 */
-    lay_full(32768, 72);
+    full_strip(32768, 72);
     EXPECT(push(1, 1), REFUSED(7));
     EXPECT(push(2, 1), REFUSED(8));
     EXPECT(flip(32767, 2), 1);
     EXPECT(rank_of(1, 32768), 32767);
-    lay_full(33280, 216);
+    full_strip(33280, 216);
     EXPECT(flip(32768, 2), 29);
     EXPECT(select_of(0, 0), 32768);
     EXPECT(select_of(1, 33278), 33279);

@@ -89,8 +89,23 @@ extern "C" {
         counter_count: usize,
     ) -> u64;
     pub fn image_clear(image: *mut u8, size: usize) -> u64;
+    pub fn image_freeze(
+        capacity: usize,
+        length: usize,
+        words: *const u64,
+        word_count: usize,
+        image: *mut u8,
+        size: usize,
+        label: usize,
+    ) -> u64;
     pub fn image_open(image: *const u8, size: usize, label: usize) -> u64;
+    pub fn image_row_get(image: *const u8, size: usize, label: usize, i: usize) -> u64;
+    pub fn image_row_rank(image: *const u8, size: usize, label: usize, v: u64, i: usize) -> u64;
+    pub fn image_row_select(image: *const u8, size: usize, label: usize, v: u64, k: usize) -> u64;
     pub fn image_part_get(part: *const u8, size: usize, n: usize, i: usize) -> u64;
     pub fn image_part_rank(part: *const u8, size: usize, n: usize, v: u64, i: usize) -> u64;
     pub fn image_part_select(part: *const u8, size: usize, n: usize, v: u64, k: usize) -> u64;
+    pub fn image_opened_get(image: *const u8, size: usize, label: usize, i: usize) -> u64;
+    pub fn image_opened_rank(image: *const u8, size: usize, label: usize, v: u64, i: usize) -> u64;
+    pub fn image_opened_select(image: *const u8, size: usize, label: usize, v: u64, k: usize) -> u64;
 }

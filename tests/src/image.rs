@@ -1,31 +1,67 @@
-//! Bytes lent to the proved calls on an image. Each reading is given a buffer of its own, and asserted to leave it as it was.
-use crate::ffi::{image_clear, image_open, image_part_get, image_part_rank, image_part_select};
+//! Bytes lent to the proved calls on an image. Each call is given a buffer of its own, between guards, and each reading is
+//! asserted to leave it as it was.
+use crate::ffi::{
+    image_clear, image_freeze, image_open, image_opened_get, image_opened_rank, image_opened_select, image_part_get,
+    image_part_rank, image_part_select, image_row_get, image_row_rank, image_row_select,
+};
+use crate::guarded::Guarded;
+use crate::{Handle, Lent};
 
-const GUARD: [u8; 16] = [0xa5; 16];
+/// Runs a call on bytes between two guards.
+fn run(bytes: &[u8], call: impl FnOnce(*mut u8, usize) -> u64) -> (u64, Guarded<u8>) {
+    let mut lent = Guarded::new(bytes, 0xa5);
+    let (memory, size) = lent.lend();
+    let answer = call(memory, size);
+    assert!(lent.intact(), "a call wrote to a guard");
+    (answer, lent)
+}
 
-/// Runs a reading on bytes between two guards.
-fn reading(bytes: &[u8], call: impl Fn(*const u8, usize) -> u64) -> u64 {
-    let memory = [&GUARD, bytes, &GUARD].concat();
-    let copy = memory.clone();
-    let answer = call(memory[16..].as_ptr(), bytes.len());
-    assert!(memory == copy, "a reading wrote");
+fn change(bytes: &mut [u8], call: impl FnOnce(*mut u8, usize) -> u64) -> u64 {
+    let (answer, lent) = run(bytes, call);
+    bytes.copy_from_slice(lent.numbers());
+    answer
+}
+
+fn reading(bytes: &[u8], call: impl FnOnce(*const u8, usize) -> u64) -> u64 {
+    let (answer, lent) = run(bytes, |memory, size| call(memory, size));
+    assert!(lent.numbers() == bytes, "a reading wrote");
     answer
 }
 
 /// clear
-pub fn clear(bytes: &mut [u8]) -> u64 {
-    let mut memory = [&GUARD, &bytes[..], &GUARD].concat();
-    // SAFETY: the pointer is to as many bytes as are named, which live through the call.
-    let answer = unsafe { image_clear(memory[16..].as_mut_ptr(), bytes.len()) };
-    assert!(memory[..16] == GUARD && memory[16 + bytes.len()..] == GUARD, "clear wrote outside");
-    bytes.copy_from_slice(&memory[16..16 + bytes.len()]);
+pub fn clear(image: &mut [u8]) -> u64 {
+    // SAFETY: the pointer is to as many bytes as are named, which live through the call; so too below.
+    change(image, |bytes, size| unsafe { image_clear(bytes, size) })
+}
+
+/// freeze(label)
+pub fn freeze(h: Handle, words: &[u64], image: &mut [u8], label: usize) -> u64 {
+    let mut lent = Lent::new(words);
+    let (words, count) = lent.lend();
+    let answer =
+        change(image, |bytes, size| unsafe { image_freeze(h.capacity, h.length, words, count, bytes, size, label) });
+    lent.unchanged();
     answer
 }
 
 /// The place of a label's record.
 pub fn open(image: &[u8], label: usize) -> u64 {
-    // SAFETY: as in `clear`, here and below.
     reading(image, |bytes, size| unsafe { image_open(bytes, size, label) })
+}
+
+/// look(i) on a label's row.
+pub fn row_get(image: &[u8], label: usize, i: usize) -> u64 {
+    reading(image, |bytes, size| unsafe { image_row_get(bytes, size, label, i) })
+}
+
+/// count(v, i) on a label's row.
+pub fn row_rank(image: &[u8], label: usize, v: u64, i: usize) -> u64 {
+    reading(image, |bytes, size| unsafe { image_row_rank(bytes, size, label, v, i) })
+}
+
+/// find(v, k) on a label's row.
+pub fn row_select(image: &[u8], label: usize, v: u64, k: usize) -> u64 {
+    reading(image, |bytes, size| unsafe { image_row_select(bytes, size, label, v, k) })
 }
 
 /// look(i) on a row's part and a held length.
@@ -41,4 +77,19 @@ pub fn rank(part: &[u8], n: usize, v: u64, i: usize) -> u64 {
 /// find(v, k) on a row's part and a held length.
 pub fn select(part: &[u8], n: usize, v: u64, k: usize) -> u64 {
     reading(part, |bytes, size| unsafe { image_part_select(bytes, size, n, v, k) })
+}
+
+/// Opening a row, then look(i) on it.
+pub fn opened_get(image: &[u8], label: usize, i: usize) -> u64 {
+    reading(image, |bytes, size| unsafe { image_opened_get(bytes, size, label, i) })
+}
+
+/// Opening a row, then count(v, i) on it.
+pub fn opened_rank(image: &[u8], label: usize, v: u64, i: usize) -> u64 {
+    reading(image, |bytes, size| unsafe { image_opened_rank(bytes, size, label, v, i) })
+}
+
+/// Opening a row, then find(v, k) on it.
+pub fn opened_select(image: &[u8], label: usize, v: u64, k: usize) -> u64 {
+    reading(image, |bytes, size| unsafe { image_opened_select(bytes, size, label, v, k) })
 }

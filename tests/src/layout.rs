@@ -1,5 +1,6 @@
 //! A plain writer and reader of the image's layout.
-use crate::model::Answer;
+use crate::model::{self, Answer};
+use crate::Handle;
 
 pub const MOST_ROW: usize = 134_217_728;
 
@@ -29,13 +30,13 @@ pub fn record(next: usize, label: usize, bits: &[bool]) -> Vec<u8> {
         bytes.extend((value as u32).to_le_bytes());
     }
     let mut before = 0;
-    for block in bits.chunks(4096) {
+    for superblock in bits.chunks(4096) {
         let mut entry = before;
         for j in 1..8 {
-            entry |= ones(&block[..block.len().min(512 * j)]) << (44 + 12 * (j - 1));
+            entry |= ones(&superblock[..superblock.len().min(512 * j)]) << (44 + 12 * (j - 1));
         }
         bytes.extend(entry.to_le_bytes());
-        before += ones(block);
+        before += ones(superblock);
     }
     let start = bytes.len();
     bytes.resize(size(bits.len()), 0);
@@ -93,4 +94,66 @@ pub fn open(image: &[u8], label: usize) -> Answer {
     }
     let found = places.into_iter().find(|&p| number(image, p + 4) == label);
     found.map(|p| p as u64).ok_or(14)
+}
+
+/// freeze(label): 1, 2, 10, 11, 12, 13, or the record's unit index. The strip is the first bits of those lent.
+pub fn freeze(h: Handle, lent: &[bool], image: &mut [u8], label: usize) -> Answer {
+    model::check(h, lent.len() / 64)?;
+    let opened = open(image, label);
+    if opened != Err(14) {
+        return Err(opened.err().unwrap_or(12));
+    }
+    let last = chain(image).unwrap().last().copied();
+    let at = last.map_or(16, |p| p + size(number(image, p + 8)));
+    if at + size(h.length) > image.len() {
+        return Err(13);
+    }
+    store(image, last.unwrap_or(0), at / 16);
+    image[at..at + size(h.length)].copy_from_slice(&record(0, label, &lent[..h.length]));
+    Ok(at as u64 / 16)
+}
+
+/// A row: its bits, the positions that hold 0 and those that hold 1, and whether it is right.
+pub struct Row {
+    pub bits: Vec<bool>,
+    places: [Vec<usize>; 2],
+    pub right: bool,
+}
+
+impl Row {
+    /// A part that is one record. The row is right where the part is the record of its own bits.
+    pub fn new(part: &[u8]) -> Row {
+        let length = number(part, 8);
+        let start = 16 + 16 * length.div_ceil(4096);
+        let bits: Vec<bool> = (0..length).map(|p| part[start + p / 8] >> (p % 8) & 1 == 1).collect();
+        let places = [false, true].map(|v| (0..length).filter(|&p| bits[p] == v).collect());
+        let right = part == record(number(part, 0), number(part, 4), &bits);
+        Row { bits, places, right }
+    }
+
+    /// look(i): 4.
+    pub fn get(&self, i: usize) -> Answer {
+        self.bits.get(i).map(|&b| u64::from(b)).ok_or(4)
+    }
+
+    /// count(v, i) by definition: 8, 4.
+    pub fn rank(&self, v: u64, i: usize) -> Answer {
+        let places = self.places.get(v as usize).ok_or(8u64)?;
+        if i > self.bits.len() {
+            return Err(4);
+        }
+        Ok(places.partition_point(|&p| p < i) as u64)
+    }
+
+    /// find(v, k) by definition: 8, 6.
+    pub fn select(&self, v: u64, k: usize) -> Answer {
+        let places = self.places.get(v as usize).ok_or(8u64)?;
+        places.get(k).map(|&p| p as u64).ok_or(6)
+    }
+}
+
+/// The row of a label: 10, 11, 14.
+pub fn row(image: &[u8], label: usize) -> Result<Row, u64> {
+    let at = open(image, label)? as usize;
+    Ok(Row::new(&image[at..at + size(number(image, at + 8))]))
 }

@@ -1,6 +1,7 @@
 //! The proved calls, to be compared with a plain model of them: those on words here, those on a record in `record`, those
 //! on an image in `image`.
-mod ffi;
+pub mod ffi;
+mod guarded;
 pub mod image;
 pub mod layout;
 pub mod model;

@@ -17,7 +17,7 @@ pub fn coded(answer: Answer) -> u64 {
 
 /// The words that hold these bits, 64 to a word; bit 0 of a word has weight 1.
 pub fn words_of(bits: &[bool]) -> Vec<u64> {
-    assert!(bits.len() % 64 == 0);
+    assert!(bits.len().is_multiple_of(64));
     let mut words = Vec::new();
     for part in bits.chunks(64) {
         let mut word = 0;
@@ -40,8 +40,9 @@ pub fn bits_of(word: u64) -> Vec<bool> {
     bits
 }
 
-fn check(h: Handle, count: usize) -> Result<(), u64> {
-    if h.capacity % 512 != 0 || h.capacity < 512 || h.capacity > 134_217_728 {
+/// The refusals of every strip call: 1, 2.
+pub fn check(h: Handle, count: usize) -> Result<(), u64> {
+    if !h.capacity.is_multiple_of(512) || h.capacity < 512 || h.capacity > 134_217_728 {
         return Err(1);
     }
     if h.length > h.capacity {
@@ -76,23 +77,13 @@ pub fn get(h: Handle, count: usize, bits: &[bool], i: usize) -> Answer {
 /// next(v, i): the smallest position at or past i, below the length, holding v.
 pub fn successor(h: Handle, count: usize, bits: &[bool], v: u64, i: usize) -> Answer {
     let value = check_valued(h, count, v, i)?;
-    for p in i..h.length {
-        if bits[p] == value {
-            return Ok(p as u64);
-        }
-    }
-    Err(6)
+    (i..h.length).find(|&p| bits[p] == value).map(|p| p as u64).ok_or(6)
 }
 
 /// prior(v, i): the largest position below i holding v.
 pub fn predecessor(h: Handle, count: usize, bits: &[bool], v: u64, i: usize) -> Answer {
     let value = check_valued(h, count, v, i)?;
-    for p in (0..i).rev() {
-        if bits[p] == value {
-            return Ok(p as u64);
-        }
-    }
-    Err(6)
+    (0..i).rev().find(|&p| bits[p] == value).map(|p| p as u64).ok_or(6)
 }
 
 /// The position of the k-th one, k from 0, or the number of bits where there are too few.

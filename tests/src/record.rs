@@ -2,6 +2,7 @@
 use crate::ffi::{
     strip_create, strip_fill, strip_flip, strip_push, strip_rank, strip_select, strip_truncate, strip_verify,
 };
+use crate::guarded::Guarded;
 use crate::Handle;
 
 /// A call that changes a record. `Create` takes a capacity and no handle.
@@ -29,37 +30,6 @@ pub struct Report {
     pub first: u64,
     pub second: u64,
     pub handle: Handle,
-}
-
-/// Numbers between two guards.
-struct Guarded<T> {
-    memory: Vec<T>,
-    guard: T,
-}
-
-impl<T: Copy + PartialEq> Guarded<T> {
-    fn new(numbers: &[T], guard: T) -> Guarded<T> {
-        Guarded { memory: [&[guard; 4], numbers, &[guard; 4]].concat(), guard }
-    }
-
-    fn numbers(&self) -> &[T] {
-        &self.memory[4..self.memory.len() - 4]
-    }
-
-    fn numbers_mut(&mut self) -> &mut [T] {
-        let end = self.memory.len() - 4;
-        &mut self.memory[4..end]
-    }
-
-    fn lend(&mut self) -> (*mut T, usize) {
-        let numbers = self.numbers_mut();
-        (numbers.as_mut_ptr(), numbers.len())
-    }
-
-    fn intact(&self) -> bool {
-        let (left, right) = (&self.memory[..4], &self.memory[self.memory.len() - 4..]);
-        left.iter().chain(right).all(|number| *number == self.guard)
-    }
 }
 
 /// What `out` holds before a call.

@@ -359,8 +359,8 @@ fn every_position() {
             let mut seen = [0; 2];
             for p in 0..=length {
                 let h = pair.handle();
-                for v in 0..2 {
-                    assert_eq!(pair.record.read(h, Rank(v as u64, p)), seen[v]);
+                for (v, count) in seen.into_iter().enumerate() {
+                    assert_eq!(pair.record.read(h, Rank(v as u64, p)), count);
                 }
                 if p < length {
                     let v = usize::from(pair.strip.bits[p]);
@@ -368,8 +368,8 @@ fn every_position() {
                     seen[v] += 1;
                 }
             }
-            for v in 0..2 {
-                assert_eq!(pair.read(Select(v as u64, seen[v] as usize)), refused(6));
+            for (v, count) in seen.into_iter().enumerate() {
+                assert_eq!(pair.read(Select(v as u64, count as usize)), refused(6));
             }
         }
     }
@@ -461,15 +461,15 @@ fn first_refusal_wins() {
     for faults in 0..64 {
         let has = |n: u32| faults / 2u32.pow(n) % 2 == 1;
         let [handle, words, counters] = [has(0), has(1), has(2)];
-        let lent = vec![(handle, 1), (words, 2), (counters, 3)];
+        let lent = [(handle, 1), (words, 2), (counters, 3)];
         let number = |own: &[(bool, u64)]| lent.iter().chain(own).find(|(applies, _)| *applies).map(|(_, n)| *n);
         let new = |length: usize| {
             let strip = Strip { capacity: 1024, bits: vec![1; length] };
-            let (mut laid_words, mut laid_counters) = (strip.words(), strip.counters());
-            laid_words.resize(if words { 15 } else { 16 }, 0);
-            laid_counters.resize(if counters { 73 } else { 72 }, 0);
+            let (mut packed_words, mut built_counters) = (strip.words(), strip.counters());
+            packed_words.resize(if words { 15 } else { 16 }, 0);
+            built_counters.resize(if counters { 73 } else { 72 }, 0);
             let h = Handle { capacity: 1024, length: if handle { 1025 } else { length } };
-            (Record::new(&laid_words, &laid_counters), h)
+            (Record::new(&packed_words, &built_counters), h)
         };
         let changes = |length: usize, change: Change, own: &[(bool, u64)]| {
             let (mut record, h) = new(length);
@@ -581,8 +581,9 @@ fn any_record(random: &mut Random, record: &mut Record, h: Handle) {
     let (words, counters) = (record.words().to_vec(), record.counters().to_vec());
     for _ in 0..20 {
         for v in [0, 1] {
-            let count = record.read(h, Rank(v, place(random, h.length + 1)));
-            assert!(count <= h.length as u64 || count == refused(9) && !fit);
+            let i = place(random, h.length + 1);
+            let count = record.read(h, Rank(v, i));
+            assert!(count <= i as u64 || count == refused(9) && !fit);
             let found = record.read(h, Select(v, place(random, h.length + 1)));
             assert!(found < h.length as u64 || found == refused(6) || found == refused(9) && !fit);
         }
@@ -673,8 +674,8 @@ fn damaged_records() {
 #[test]
 fn damaged_records_at_three_levels() {
     let mut random = Random::new(42);
-    let capacity = 2_097_664;
-    for kind in 0..12 {
+    let kinds = (0..12).flat_map(|kind| [(2_097_152, kind), (2_097_664, kind)]);
+    for (capacity, kind) in kinds.chain([(134_217_728, 5)]) {
         let length = capacity - random.below(1000);
         let bits = random_bits(&mut random, length, 500);
         let Pair { strip, mut record } = Pair::new(capacity, bits);

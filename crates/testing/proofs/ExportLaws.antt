@@ -1,16 +1,15 @@
 -- The laws of what the exported calls give. Assumes nothing.
-use mathlib.Core.Path.{_≡_, refl, sym, ap, ap₂, _∙_, subst}
-use mathlib.Core.Bool.{Bool, true, false, cond}
-use mathlib.Core.List.{List, [], _∷_, _++_}
+use mathlib.Core.Path.{_≡_, refl, sym, ap, _∙_, subst}
+use mathlib.Core.Bool.{Bool, cond}
+use mathlib.Core.List.{List, [], _∷_}
 use Prim.Native.Nat.{ℕ, _≤_, _<_}
 use native.Mathlib.Omega.{arith}
-use lib.ListN.{length, set, drop}
-use lib.Dec.{ltb}
+use lib.ListN.{length, set}
 use borrow.Author.Tests.{lt-ltb, le-ltb}
 use Rattle.words.specs.declared.handle.Handle.{Handle}
 use Rattle.words.specs.Refusals.{Told, coded}
-use Rattle.counters.specs.Promises.{MovedTold, Outcome, outcome}
-use Rattle.testing.specs.Exports.{CodedAs, five, movedFive, fiveOver, Lent, lent, after, short, reported, Ran, Reported}
+use Rattle.counters.specs.Promises.{ChangedTold, Outcome, outcome}
+use Rattle.testing.specs.Exports.{CodedAs, five, changedFive, fiveOver, lent, after, reported, Reported}
 
 -- five stores at the front
 pub set-five : (os : List ℕ) (n x y : ℕ) (h : Handle) → 5 ≤ length os
@@ -39,12 +38,12 @@ reported-ran numbers ws cs os vs ds es t o le e w =
     ∙ sym (ap (λ (b : Bool). cond b (lent ws cs os) (after numbers os o)) (le-ltb (length os) 5 le))
 
 -- a change with a free part: too short an `out`
-pub some-idle : (P : Outcome MovedTold → Type 0) (ws cs os : List ℕ) → length os < 5 → Reported P ws cs os (lent ws cs os)
+pub some-idle : (P : Outcome ChangedTold → Type 0) (ws cs os : List ℕ) → length os < 5 → Reported P ws cs os (lent ws cs os)
 some-idle P ws cs os l = record { idle = (λ h. refl); ran = (λ h. absurd (omega arith)) }
 
 -- and run, under the handle made of the two numbers
-pub some-ran : (P : Handle → Outcome MovedTold → Type 0) (g h : Handle) (ws cs os vs ds es : List ℕ) (t : MovedTold) → g ≡ h → 5 ≤ length os
-    → P g (outcome t vs ds) → es ≡ fiveOver (movedFive t) os → Reported (P h) ws cs os (lent vs ds es)
+pub some-ran : (P : Handle → Outcome ChangedTold → Type 0) (g h : Handle) (ws cs os vs ds es : List ℕ) (t : ChangedTold) → g ≡ h → 5 ≤ length os
+    → P g (outcome t vs ds) → es ≡ fiveOver (changedFive t) os → Reported (P h) ws cs os (lent vs ds es)
 some-ran P g h ws cs os vs ds es t e le p w =
     record {
       idle = (λ l. absurd (omega arith));

@@ -1,14 +1,14 @@
 -- What the exported calls give. Assumes nothing.
 use Prim.Native.Nat.{ℕ, _≤_, _<_}
 use mathlib.Core.Path.{_≡_}
-use mathlib.Core.Bool.{Bool, true, false, cond}
+use mathlib.Core.Bool.{Bool, cond}
 use mathlib.Core.List.{List, [], _∷_, _++_}
 use lib.ListN.{length, drop}
 use lib.Dec.{ltb}
 use Rattle.words.specs.declared.handle.Handle.{Handle}
 use Rattle.words.specs.Refusals.{Told, coded}
 use Rattle.words.specs.Handles.{handle}
-use Rattle.counters.specs.Promises.{LaidTold, laid, unlaid, MovedTold, done, kept, Outcome}
+use Rattle.counters.specs.Promises.{CreatedTold, created, uncreated, ChangedTold, done, kept, Outcome}
 
 -- r is the code of something told of which P holds
 pub record CodedAs (P : Told → Type 0) (r : ℕ) : Type 0 where
@@ -16,18 +16,18 @@ pub record CodedAs (P : Told → Type 0) (r : ℕ) : Type 0 where
   pub holds : P told
   pub code : r ≡ coded told
 
--- five numbers: refusal or 0, first value, second value or 0, capacity and length of the handle now in use
+-- five numbers: refusal or 0, first value, second value or 0, capacity and length of the handle to go on with
 abbrev pub five : ℕ → ℕ → ℕ → Handle → List ℕ
 five n x y h = n ∷ x ∷ y ∷ h .capacity ∷ h .length ∷ []
 
-abbrev pub movedFive : MovedTold → List ℕ
-movedFive (done h x y) = five 0 x y h
-movedFive (kept h n) = five n 0 0 h
+abbrev pub changedFive : ChangedTold → List ℕ
+changedFive (done h x y) = five 0 x y h
+changedFive (kept h n) = five n 0 0 h
 
 -- a refused lay gives no handle: 0, 0
-abbrev pub laidFive : LaidTold → List ℕ
-laidFive (laid h x) = five 0 x 0 h
-laidFive (unlaid n) = five n 0 0 (handle 0 0)
+abbrev pub createdFive : CreatedTold → List ℕ
+createdFive (created h x) = five 0 x 0 h
+createdFive (uncreated n) = five n 0 0 (handle 0 0)
 
 -- the first five numbers of `out` are xs, those past the fifth stay
 abbrev pub fiveOver : List ℕ → List ℕ → List ℕ
@@ -55,11 +55,11 @@ abbrev pub reported : {A : Type 0} → (A → List ℕ) → List ℕ → List �
 reported numbers ws cs os o = cond (short os) (lent ws cs os) (after numbers os o)
 
 -- a change with some outcome of which P holds
-pub record Ran (P : Outcome MovedTold → Type 0) (os : List ℕ) (l : Lent) : Type 0 where
-  pub outcome : Outcome MovedTold
+pub record Ran (P : Outcome ChangedTold → Type 0) (os : List ℕ) (l : Lent) : Type 0 where
+  pub outcome : Outcome ChangedTold
   pub holds : P outcome
-  pub same : l ≡ after movedFive os outcome
+  pub same : l ≡ after changedFive os outcome
 
-pub record Reported (P : Outcome MovedTold → Type 0) (ws cs os : List ℕ) (l : Lent) : Type 0 where
+pub record Reported (P : Outcome ChangedTold → Type 0) (ws cs os : List ℕ) (l : Lent) : Type 0 where
   pub idle : length os < 5 → l ≡ lent ws cs os
   pub ran : 5 ≤ length os → Ran P os l

@@ -1,14 +1,14 @@
 // The calls on a record, words and counters. The readings answer a number, a refusal as 2^32 plus its number. The changes write five numbers to the
-// front of `out`: refusal or 0, first value, second value or 0, capacity and length of the handle now in use. With a shorter `out` nothing runs.
+// front of `out`: refusal or 0, first value, second value or 0, capacity and length of the handle to go on with (0 and 0 where create is refused). With a shorter `out` nothing runs.
 ghost use mathlib.Core.Path.{_≡_};
 ghost use Prim.Native.Nat.{_≤_};
 ghost use lib.ListN.{length};
 ghost use Rattle.words.specs.Handles.{handle as handleOf};
-ghost use Rattle.counters.specs.Promises.{laidOf, movedOf};
+ghost use Rattle.counters.specs.Promises.{createdOf, changedOf};
 ghost use Rattle.counters.specs.Calls.{Ranked, Selected, Verified, createOutcome, Pushed, Flipped, fillOutcome, truncateOutcome};
-ghost use Rattle.testing.specs.Exports.{CodedAs, five, movedFive, laidFive, fiveOver, lent, reported, Reported};
-use counters::answer::Laid;
-use counters::answer::Moved;
+ghost use Rattle.testing.specs.Exports.{CodedAs, five, changedFive, createdFive, fiveOver, lent, reported, Reported};
+use counters::answer::Changed;
+use counters::answer::Created;
 use counters::change::create;
 use counters::change::fill;
 use counters::change::flip;
@@ -77,24 +77,24 @@ fn write_five(out: &mut [u64], refusal: u64, x: u64, y: u64, h: Handle)
 }
 
 // Writes what a change answers.
-fn write_moved(out: &mut [u64], m: Moved)
+fn write_changed(out: &mut [u64], m: Changed)
     requires { ⌜ 5 ≤ length (now out) ⌝ }
-    ensures { λ _. ⌜ now (out .exit) ≡ fiveOver (movedFive (movedOf m)) (now (out .entry)) ⌝ }
+    ensures { λ _. ⌜ now (out .exit) ≡ fiveOver (changedFive (changedOf m)) (now (out .entry)) ⌝ }
 {
     match m {
-        Moved::Done(h, x, y) => write_five(out, 0, x, y, h),
-        Moved::Refused(h, r) => write_five(out, number(r), 0, 0, h),
+        Changed::Done(h, x, y) => write_five(out, 0, x, y, h),
+        Changed::Refused(h, r) => write_five(out, number(r), 0, 0, h),
     }
 }
 
 // Writes what laying answers.
-fn write_laid(out: &mut [u64], m: Laid)
+fn write_created(out: &mut [u64], m: Created)
     requires { ⌜ 5 ≤ length (now out) ⌝ }
-    ensures { λ _. ⌜ now (out .exit) ≡ fiveOver (laidFive (laidOf m)) (now (out .entry)) ⌝ }
+    ensures { λ _. ⌜ now (out .exit) ≡ fiveOver (createdFive (createdOf m)) (now (out .entry)) ⌝ }
 {
     match m {
-        Laid::Done(h, x) => write_five(out, 0, x, 0, h),
-        Laid::Refused(r) => write_five(out, number(r), 0, 0, Handle::new(0, 0)),
+        Created::Done(h, x) => write_five(out, 0, x, 0, h),
+        Created::Refused(r) => write_five(out, number(r), 0, 0, Handle::new(0, 0)),
     }
 }
 
@@ -106,13 +106,13 @@ pub extern "C" fn strip_create(
     counters: &mut [u32],
     out: &mut [u64],
 )
-    ensures { λ _. ⌜ lent (now (words .exit)) (now (counters .exit)) (now (out .exit)) ≡ reported laidFive (now (words .entry)) (now (counters .entry)) (now (out .entry)) (createOutcome capacity (now (words .entry)) (now (counters .entry))) ⌝ }
+    ensures { λ _. ⌜ lent (now (words .exit)) (now (counters .exit)) (now (out .exit)) ≡ reported createdFive (now (words .entry)) (now (counters .entry)) (now (out .entry)) (createOutcome capacity (now (words .entry)) (now (counters .entry))) ⌝ }
 {
     if out.len() < 5 {
         return;
     }
     let m = create(capacity, words, counters);
-    write_laid(out, m);
+    write_created(out, m);
 }
 
 // add(v): appends v.
@@ -131,7 +131,7 @@ pub extern "C" fn strip_push(
         return;
     }
     let m = push(Handle::new(capacity, length), words, counters, v);
-    write_moved(out, m);
+    write_changed(out, m);
 }
 
 // turn(i): replaces a bit by its opposite.
@@ -150,7 +150,7 @@ pub extern "C" fn strip_flip(
         return;
     }
     let m = flip(Handle::new(capacity, length), words, counters, i);
-    write_moved(out, m);
+    write_changed(out, m);
 }
 
 // run(a, b, v): sets the positions a to b - 1 to v.
@@ -165,13 +165,13 @@ pub extern "C" fn strip_fill(
     v: u64,
     out: &mut [u64],
 )
-    ensures { λ _. ⌜ lent (now (words .exit)) (now (counters .exit)) (now (out .exit)) ≡ reported movedFive (now (words .entry)) (now (counters .entry)) (now (out .entry)) (fillOutcome (handleOf capacity length) a b v (now (words .entry)) (now (counters .entry))) ⌝ }
+    ensures { λ _. ⌜ lent (now (words .exit)) (now (counters .exit)) (now (out .exit)) ≡ reported changedFive (now (words .entry)) (now (counters .entry)) (now (out .entry)) (fillOutcome (handleOf capacity length) a b v (now (words .entry)) (now (counters .entry))) ⌝ }
 {
     if out.len() < 5 {
         return;
     }
     let m = fill(Handle::new(capacity, length), words, counters, a, b, v);
-    write_moved(out, m);
+    write_changed(out, m);
 }
 
 // cut(n): keeps the first n.
@@ -184,11 +184,11 @@ pub extern "C" fn strip_truncate(
     n: usize,
     out: &mut [u64],
 )
-    ensures { λ _. ⌜ lent (now (words .exit)) (now (counters .exit)) (now (out .exit)) ≡ reported movedFive (now (words .entry)) (now (counters .entry)) (now (out .entry)) (truncateOutcome (handleOf capacity length) n (now (words .entry)) (now (counters .entry))) ⌝ }
+    ensures { λ _. ⌜ lent (now (words .exit)) (now (counters .exit)) (now (out .exit)) ≡ reported changedFive (now (words .entry)) (now (counters .entry)) (now (out .entry)) (truncateOutcome (handleOf capacity length) n (now (words .entry)) (now (counters .entry))) ⌝ }
 {
     if out.len() < 5 {
         return;
     }
     let m = truncate(Handle::new(capacity, length), words, counters, n);
-    write_moved(out, m);
+    write_changed(out, m);
 }

@@ -1,9 +1,9 @@
--- `testing::record::strip_create` meets its contract: it is that of `create`, then that of `write_laid`. Assumes nothing.
+-- `testing::record::strip_create` meets its contract: it is that of `create`, then that of `write_created`. Assumes nothing.
 use native.Mathlib.Omega.{arith}
 use borrow.Author.Needs.{needs}
-use Rattle.counters.specs.Promises.{laidOf}
+use Rattle.counters.specs.Promises.{createdOf}
 use Rattle.counters.specs.Calls.{createOutcome}
-use Rattle.testing.specs.Exports.{laidFive}
+use Rattle.testing.specs.Exports.{createdFive}
 use Rattle.testing.proofs.ExportLaws.{reported-idle, reported-ran}
 use Rattle.testing.proofs.record.strip_create.Statement.{statement}
 use Rattle.testing.proofs.record.strip_create.Tie as tie
@@ -11,13 +11,13 @@ use Rattle.testing.proofs.record.strip_create.Tie as tie
 returns : tie.Need-returns
 returns c =
     let a = c .before .before .before .before .args in
-    reported-idle laidFive (a .words .now) (a .counters .now) (a .out .now) (createOutcome (a .capacity) (a .words .now) (a .counters .now)) (c .if1 .taken)
+    reported-idle createdFive (a .words .now) (a .counters .now) (a .out .now) (createOutcome (a .capacity) (a .words .now) (a .counters .now)) (c .if1 .taken)
 
 create-requires : tie.Need-create-requires
 create-requires c κs = search needs
 
-write-laid-requires : tie.Need-write-laid-requires
-write-laid-requires c κs = search needs
+write-created-requires : tie.Need-write-created-requires
+write-created-requires c κs = search needs
 
 same-length : tie.Need-same-length
 same-length c = search needs
@@ -32,8 +32,8 @@ returns-2 : tie.Need-returns-2
 returns-2 c =
     let a = c .before .before .before .before .before .before .before .before .before .before .before .before .before .before .before .args in
     let d = c .before .before .before .before .before .before .before .before .create in
-    let w = c .before .before .write-laid in
-    reported-ran laidFive (a .words .now) (a .counters .now) (a .out .now) (d .last .1 .0) (d .last .1 .1 .0) (w .last .0) (laidOf (d .result))
+    let w = c .before .before .write-created in
+    reported-ran createdFive (a .words .now) (a .counters .now) (a .out .now) (d .last .1 .0) (d .last .1 .1 .0) (w .last .0) (createdOf (d .result))
     (createOutcome (a .capacity) (a .words .now) (a .counters .now)) (omega (arith, c .before .before .before .before .before .before .before .before .before .before .before .if1 .left)) (d .ensures) (w .ensures)
 
 pub strip-create-spec : {M : Type 1} → statement M
@@ -42,7 +42,7 @@ strip-create-spec =
     (tie.spec
     returns
     create-requires
-    write-laid-requires
+    write-created-requires
     same-length
     same-length-2
     same-length-3

@@ -1,12 +1,12 @@
--- `testing::record::strip_fill` meets its contract: it is that of `fill`, then that of `write_moved`. Assumes nothing.
+-- `testing::record::strip_fill` meets its contract: it is that of `fill`, then that of `write_changed`. Assumes nothing.
 use mathlib.Core.Path.{ap, _∙_}
 use native.Mathlib.Omega.{arith}
 use borrow.Author.Needs.{needs}
 use Rattle.words.specs.declared.handle.Handle.{Handle}
 use Rattle.words.specs.Handles.{handle}
-use Rattle.counters.specs.Promises.{movedOf}
+use Rattle.counters.specs.Promises.{changedOf}
 use Rattle.counters.specs.Calls.{fillOutcome}
-use Rattle.testing.specs.Exports.{movedFive}
+use Rattle.testing.specs.Exports.{changedFive}
 use Rattle.testing.proofs.ExportLaws.{reported-idle, reported-ran}
 use Rattle.testing.proofs.record.strip_fill.Statement.{statement}
 use Rattle.testing.proofs.record.strip_fill.Tie as tie
@@ -14,7 +14,7 @@ use Rattle.testing.proofs.record.strip_fill.Tie as tie
 returns : tie.Need-returns
 returns c =
     let a = c .before .before .before .before .args in
-    reported-idle movedFive (a .words .now) (a .counters .now) (a .out .now)
+    reported-idle changedFive (a .words .now) (a .counters .now) (a .out .now)
     (fillOutcome (handle (a .capacity) (a .length)) (a .a) (a .b) (a .v) (a .words .now) (a .counters .now)) (c .if1 .taken)
 
 new-requires : tie.Need-new-requires
@@ -23,8 +23,8 @@ new-requires c κs = search needs
 fill-requires : tie.Need-fill-requires
 fill-requires c κs = search needs
 
-write-moved-requires : tie.Need-write-moved-requires
-write-moved-requires c κs = search needs
+write-changed-requires : tie.Need-write-changed-requires
+write-changed-requires c κs = search needs
 
 same-length : tie.Need-same-length
 same-length c = search needs
@@ -39,8 +39,8 @@ returns-2 : tie.Need-returns-2
 returns-2 c =
     let a = c .before .before .before .before .before .before .before .before .before .before .before .before .before .before .before .before .args in
     let d = c .before .before .before .before .before .before .before .before .fill in
-    let w = c .before .before .write-moved in
-    reported-ran movedFive (a .words .now) (a .counters .now) (a .out .now) (d .last .1 .0) (d .last .1 .1 .0) (w .last .0) (movedOf (d .result))
+    let w = c .before .before .write-changed in
+    reported-ran changedFive (a .words .now) (a .counters .now) (a .out .now) (d .last .1 .0) (d .last .1 .1 .0) (w .last .0) (changedOf (d .result))
     (fillOutcome (handle (a .capacity) (a .length)) (a .a) (a .b) (a .v) (a .words .now) (a .counters .now)) (omega (arith, c .before .before .before .before .before .before .before .before .before .before .before .before .if1 .left))
     (d .ensures ∙ ap (λ (h : Handle). fillOutcome h (a .a) (a .b) (a .v) (a .words .now) (a .counters .now)) (c .before .before .before .before .before .before .before .before .before .before .before .new .ensures)) (w .ensures)
 
@@ -51,7 +51,7 @@ strip-fill-spec =
     returns
     new-requires
     fill-requires
-    write-moved-requires
+    write-changed-requires
     same-length
     same-length-2
     same-length-3

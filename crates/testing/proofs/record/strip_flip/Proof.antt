@@ -1,9 +1,9 @@
--- `testing::record::strip_flip` meets its contract: it is that of `flip`, then that of `write_moved`. Assumes nothing.
+-- `testing::record::strip_flip` meets its contract: it is that of `flip`, then that of `write_changed`. Assumes nothing.
 use native.Mathlib.Omega.{arith}
 use borrow.Author.Needs.{needs}
 use Rattle.words.specs.declared.handle.Handle.{Handle}
 use Rattle.words.specs.Handles.{handle}
-use Rattle.counters.specs.Promises.{movedOf}
+use Rattle.counters.specs.Promises.{changedOf}
 use Rattle.counters.specs.Calls.{Flipped}
 use Rattle.testing.proofs.ExportLaws.{some-idle, some-ran}
 use Rattle.testing.proofs.record.strip_flip.Statement.{statement}
@@ -20,8 +20,8 @@ new-requires c κs = search needs
 flip-requires : tie.Need-flip-requires
 flip-requires c κs = search needs
 
-write-moved-requires : tie.Need-write-moved-requires
-write-moved-requires c κs = search needs
+write-changed-requires : tie.Need-write-changed-requires
+write-changed-requires c κs = search needs
 
 same-length : tie.Need-same-length
 same-length c = search needs
@@ -37,9 +37,9 @@ returns-2 c =
     let a = c .before .before .before .before .before .before .before .before .before .before .before .before .before .before .before .before .args in
     let n = c .before .before .before .before .before .before .before .before .before .before .before .new in
     let d = c .before .before .before .before .before .before .before .before .flip in
-    let w = c .before .before .write-moved in
+    let w = c .before .before .write-changed in
     some-ran (λ (h : Handle). Flipped h (a .i) (a .words .now) (a .counters .now)) (n .result) (handle (a .capacity) (a .length)) (a .words .now)
-    (a .counters .now) (a .out .now) (d .last .1 .0) (d .last .1 .1 .0) (w .last .0) (movedOf (d .result)) (n .ensures)
+    (a .counters .now) (a .out .now) (d .last .1 .0) (d .last .1 .1 .0) (w .last .0) (changedOf (d .result)) (n .ensures)
     (omega (arith, c .before .before .before .before .before .before .before .before .before .before .before .before .if1 .left)) (d .ensures) (w .ensures)
 
 pub strip-flip-spec : {M : Type 1} → statement M
@@ -49,7 +49,7 @@ strip-flip-spec =
     returns
     new-requires
     flip-requires
-    write-moved-requires
+    write-changed-requires
     same-length
     same-length-2
     same-length-3

@@ -1,13 +1,13 @@
--- `testing::record::write_laid` meets its contract, case by case. Assumes nothing.
+-- `testing::record::write_created` meets its contract, case by case. Assumes nothing.
 use mathlib.Core.Path.{sym, ap, ap₂, _∙_}
 use Prim.Native.Nat.{ℕ}
 use borrow.Author.Needs.{needs}
 use Rattle.words.specs.declared.handle.Handle.{Handle}
-use Rattle.counters.specs.declared.answer.Laid.{Laid}
-use Rattle.counters.specs.Promises.{laidOf}
-use Rattle.testing.specs.Exports.{five, laidFive, fiveOver}
-use Rattle.testing.proofs.record.write_laid.Statement.{statement}
-use Rattle.testing.proofs.record.write_laid.Tie as tie
+use Rattle.counters.specs.declared.answer.Created.{Created}
+use Rattle.counters.specs.Promises.{createdOf}
+use Rattle.testing.specs.Exports.{five, createdFive, fiveOver}
+use Rattle.testing.proofs.record.write_created.Statement.{statement}
+use Rattle.testing.proofs.record.write_created.Tie as tie
 
 enum-known-m : tie.Need-enum-known-m
 enum-known-m c = search needs
@@ -34,7 +34,7 @@ returns : tie.Need-returns
 returns c =
     let a = c .before .before .before .before .before .before .before .before .args in
     c .before .before .write-five .ensures
-    ∙ sym (ap (λ (m : Laid). fiveOver (laidFive (laidOf m)) (a .out .now)) (c .before .before .before .before .before .m .given .1))
+    ∙ sym (ap (λ (m : Created). fiveOver (createdFive (createdOf m)) (a .out .now)) (c .before .before .before .before .before .m .given .1))
 
 same-length-2 : tie.Need-same-length-2
 same-length-2 c = search needs
@@ -44,10 +44,10 @@ returns-2 c =
     let a = c .before .before .before .before .before .before .before .before .before .before .args in
     c .before .before .write-five2 .ensures
     ∙ ap₂ (λ (n : ℕ) (h : Handle). fiveOver (five n 0 0 h) (a .out .now)) (c .before .before .before .before .number .ensures .0) (c .before .before .before .new .ensures)
-    ∙ sym (ap (λ (m : Laid). fiveOver (laidFive (laidOf m)) (a .out .now)) (c .before .before .before .before .before .before .before .m2 .given .1))
+    ∙ sym (ap (λ (m : Created). fiveOver (createdFive (createdOf m)) (a .out .now)) (c .before .before .before .before .before .before .before .m2 .given .1))
 
-pub write-laid-spec : {M : Type 1} → statement M
-write-laid-spec =
+pub write-created-spec : {M : Type 1} → statement M
+write-created-spec =
     tie.close
     (tie.spec
     enum-known-m

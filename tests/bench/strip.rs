@@ -2,10 +2,10 @@
 //! C++ without checks, and a scan of the words by count_ones, with and without the machine's own ones count. All stand
 //! in one run, in alternating rounds; the figures are medians over the rounds.
 #[allow(dead_code)]
-#[path = "../tests/src/ffi.rs"]
+#[path = "../src/ffi.rs"]
 mod ffi;
 #[allow(dead_code)]
-#[path = "../tests/src/random.rs"]
+#[path = "../src/random.rs"]
 mod random;
 
 use ffi::{strip_fill, strip_flip, strip_push, strip_rank, strip_select, strip_truncate, strip_verify};

@@ -1,12 +1,12 @@
--- `testing::record::write_moved` meets its contract, case by case. Assumes nothing.
+-- `testing::record::write_changed` meets its contract, case by case. Assumes nothing.
 use mathlib.Core.Path.{sym, ap, _∙_}
 use Prim.Native.Nat.{ℕ}
 use borrow.Author.Needs.{needs}
-use Rattle.counters.specs.declared.answer.Moved.{Moved}
-use Rattle.counters.specs.Promises.{movedOf}
-use Rattle.testing.specs.Exports.{five, movedFive, fiveOver}
-use Rattle.testing.proofs.record.write_moved.Statement.{statement}
-use Rattle.testing.proofs.record.write_moved.Tie as tie
+use Rattle.counters.specs.declared.answer.Changed.{Changed}
+use Rattle.counters.specs.Promises.{changedOf}
+use Rattle.testing.specs.Exports.{five, changedFive, fiveOver}
+use Rattle.testing.proofs.record.write_changed.Statement.{statement}
+use Rattle.testing.proofs.record.write_changed.Tie as tie
 
 enum-known-m : tie.Need-enum-known-m
 enum-known-m c = search needs
@@ -30,7 +30,7 @@ returns : tie.Need-returns
 returns c =
     let a = c .before .before .before .before .before .before .before .before .args in
     c .before .before .write-five .ensures
-    ∙ sym (ap (λ (m : Moved). fiveOver (movedFive (movedOf m)) (a .out .now)) (c .before .before .before .before .before .m .given .1))
+    ∙ sym (ap (λ (m : Changed). fiveOver (changedFive (changedOf m)) (a .out .now)) (c .before .before .before .before .before .m .given .1))
 
 same-length-2 : tie.Need-same-length-2
 same-length-2 c = search needs
@@ -41,10 +41,10 @@ returns-2 c =
     let m = c .before .before .before .before .before .before .m2 in
     c .before .before .write-five2 .ensures
     ∙ ap (λ (n : ℕ). fiveOver (five n 0 0 (m .given .0 .0)) (a .out .now)) (c .before .before .before .number .ensures .0)
-    ∙ sym (ap (λ (m : Moved). fiveOver (movedFive (movedOf m)) (a .out .now)) (m .given .1))
+    ∙ sym (ap (λ (m : Changed). fiveOver (changedFive (changedOf m)) (a .out .now)) (m .given .1))
 
-pub write-moved-spec : {M : Type 1} → statement M
-write-moved-spec =
+pub write-changed-spec : {M : Type 1} → statement M
+write-changed-spec =
     tie.close
     (tie.spec
     enum-known-m

@@ -72,7 +72,7 @@ size_t move(const Shape &shape, uint32_t *counters, size_t p, uint32_t d)
 }
 
 // Lays the counters of a node whose children hold these numbers.
-void lay_node(const uint32_t *children, uint32_t *node)
+void build_node(const uint32_t *children, uint32_t *node)
 {
     uint32_t sum = 0;
     for (size_t g = 0; g < 8; g++) {
@@ -98,7 +98,7 @@ template <class Use> bool each_node(size_t capacity, const uint64_t *words, cons
                     const uint32_t *below = counters + shape.start[t - 1] + 72 * (first + c);
                     children[c] = below[7] + below[71];
                 }
-            lay_node(children, node);
+            build_node(children, node);
             if (!use(shape.start[t] + 72 * (first / 64), node)) return false;
         }
         count = (count + 63) / 64;
