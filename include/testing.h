@@ -5,7 +5,8 @@
  * many as strip_create answers: 72 for a capacity up to 32,768, 299,592 for the largest. A handle is a capacity and a
  * length.
  *
- * Each call checks what it is given, in the order named with it, and refuses by a number:
+ * Each call checks what it is given, in the order named with it, and refuses by a number (on a record that does not fit,
+ * or a wrong row, find may give 9, or 15, before 6):
  *   1  capacity not a multiple of 512 from 512 to 134,217,728, or length above capacity
  *   2  words not exactly capacity / 64
  *   3  counters not exactly as many as the capacity needs
@@ -74,7 +75,7 @@ uint64_t strip_verify(size_t capacity, size_t length, const uint64_t *words, siz
  * lent as `out`; with fewer than five the call does nothing at all. */
 
 /* lay(capacity): zeroes words and counters, and gives a handle of length 0. Value: the number of counters. Refusals:
- * 1, 2, 3; the handle is then 0, 0. */
+ * 1, 2, 3; the handle is then 0, 0, and the one last given back stays in use. */
 void strip_create(size_t capacity, uint64_t *words, size_t word_count, uint32_t *counters, size_t counter_count,
                   uint64_t *out, size_t room);
 

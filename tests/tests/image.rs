@@ -26,7 +26,7 @@ fn compare(row: &Row, v: u64, i: usize, [looked, counted, found]: [u64; 3]) {
     } else {
         assert!(counted <= i as u64 || counted == REFUSED + 15, "count({v}, {i}) of {n}: {counted}");
     }
-    if row.right || v > 1 {
+    if row.right || v > 1 || i >= n {
         assert_eq!(found, coded(row.select(v, i)), "find({v}, {i}) of {n}");
     } else {
         let refused = found == REFUSED + 6 || found == REFUSED + 15;

@@ -591,9 +591,8 @@ fn any_record(random: &mut Random, record: &mut Record, h: Handle) {
     for v in [0, 1] {
         let count = record.read(h, Rank(v, h.length));
         assert!(count <= h.length as u64 || count == refused(9) && !fit);
-        for k in FAR {
-            let found = record.read(h, Select(v, k));
-            assert!(found == refused(6) || found == refused(9) && !fit);
+        for k in FAR.into_iter().chain([h.length]) {
+            assert_eq!(record.read(h, Select(v, k)), refused(6), "k at or past the length");
         }
     }
     let ones: u64 = words.iter().map(|word| model::bits_of(*word).into_iter().map(u64::from).sum::<u64>()).sum();

@@ -1,4 +1,4 @@
--- The refusals, their numbers, ordered tables of them, and what a call tells that changes no record. Assumes nothing.
+-- The refusals, their numbers, ordered tables of them, and what a call tells that changes no strip. Assumes nothing.
 use Prim.Native.Nat.{ℕ, _+_, _^_}
 use mathlib.Core.Bool.{Bool, cond}
 use mathlib.Core.List.{List, [], _∷_}
@@ -52,7 +52,7 @@ abbrev pub unless : {A : Type 0} → Option ℕ → (ℕ → A) → A → A
 unless none refuse late = late
 unless (some n) refuse late = refuse n
 
--- what a call tells that changes no record: a value, or the number of a refusal
+-- what a call tells that changes no strip: a value, or the number of a refusal
 pub data Told : Type 0 where
   value : ℕ → Told
   refused : ℕ → Told

@@ -71,7 +71,7 @@ pub fn matches(x: u64, v: u64) -> u64
     if v == 1 { x } else { !x }
 }
 
-// The number of v among n bits of which `ones` are ones; 0 where there are more ones than bits.
+// The number of v, 0 or 1, among n bits of which `ones` are ones; no zeros where there are more ones than bits.
 pub fn of_value(v: u64, n: usize, ones: usize) -> usize
     ensures { λ r. ⌜ r ≡ ofValue v n ones ⌝ }
 {

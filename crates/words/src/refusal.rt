@@ -1,4 +1,4 @@
-// Refusals, the verdict of a call's checks, and the answer of a call that changes no record.
+// Refusals, the verdict of a call's checks, and the answer of a call that changes no strip.
 ghost use mathlib.Core.Path.{_≡_};
 ghost use Prim.Native.Nat.{_<_};
 ghost use Rattle.words.specs.Refusals.{numberOf, toldOf, coded as codedOf};
@@ -43,7 +43,7 @@ pub enum Verdict {
     Refuse(Refusal),
 }
 
-// What a call answers that changes no record: a value, or its refusal.
+// What a call answers that changes no strip: a value, or its refusal.
 pub enum Answer {
     Value(u64),
     Refused(Refusal),
