@@ -41,7 +41,7 @@ held-bits h ws =
     (λ p l. let q : p < h .length = omega (arith, strip-length ws (h .length)) in omega (arith, strip-cell ws (h .length) p q, bitAt-le ws p))
 
 -- a bit appended
-push-bits : (s : List ℕ) (v : ℕ) → ((p : ℕ) → cell s p ≤ 1) → v ≤ 1 → (p : ℕ) → cell (s ++ (v ∷ [])) p ≤ 1
+pub push-bits : (s : List ℕ) (v : ℕ) → ((p : ℕ) → cell s p ≤ 1) → v ≤ 1 → (p : ℕ) → cell (s ++ (v ∷ [])) p ≤ 1
 push-bits s v bits small =
     bits-all (s ++ (v ∷ [])) (λ p l. each p l (lt-or p (length s)))
   where
@@ -54,7 +54,7 @@ push-bits s v bits small =
         omega (arith, c)
 
 -- a cell made a bit
-set-bits : (s : List ℕ) (i b : ℕ) → ((p : ℕ) → cell s p ≤ 1) → b ≤ 1 → (p : ℕ) → cell (set s i b) p ≤ 1
+pub set-bits : (s : List ℕ) (i b : ℕ) → ((p : ℕ) → cell s p ≤ 1) → b ≤ 1 → (p : ℕ) → cell (set s i b) p ≤ 1
 set-bits s i b bits small = bits-all (set s i b) (λ p l. each p l (ℕ-discrete p i))
   where
     each : (p : ℕ) → p < length (set s i b) → Dec (p ≡ i) → cell (set s i b) p ≤ 1
@@ -64,7 +64,7 @@ set-bits s i b bits small = bits-all (set s i b) (λ p l. each p l (ℕ-discrete
     each p l (no d) = omega (arith, getD-set-other s i p b 0 d, bits p)
 
 -- cells a to b - 1 made a bit
-filled-bits : (s : List ℕ) (a b v : ℕ) → ((p : ℕ) → cell s p ≤ 1) → v ≤ 1 → (p : ℕ) → cell (filled s a b v) p ≤ 1
+pub filled-bits : (s : List ℕ) (a b v : ℕ) → ((p : ℕ) → cell s p ≤ 1) → v ≤ 1 → (p : ℕ) → cell (filled s a b v) p ≤ 1
 unfolding filled
 filled-bits s a b v bits small =
     bits-all (filled s a b v)
@@ -78,12 +78,12 @@ filled-bits s a b v bits small =
     pick false x l = l
 
 -- as long as the strip
-filled-length : (s : List ℕ) (a b v : ℕ) → length (filled s a b v) ≡ length s
+pub filled-length : (s : List ℕ) (a b v : ℕ) → length (filled s a b v) ≡ length s
 unfolding filled
 filled-length s a b v = length-listOf (λ p. cond (leb a p && ltb p b) v (cell s p)) (length s)
 
 -- the first n cells
-take-bits : (n : ℕ) (s : List ℕ) → n ≤ length s → ((p : ℕ) → cell s p ≤ 1) → (p : ℕ) → cell (take n s) p ≤ 1
+pub take-bits : (n : ℕ) (s : List ℕ) → n ≤ length s → ((p : ℕ) → cell s p ≤ 1) → (p : ℕ) → cell (take n s) p ≤ 1
 take-bits n s h bits =
     bits-all (take n s) (λ p l. omega (arith, getD-take n s p 0 (omega (arith, length-take-le n s h)), bits p))
 

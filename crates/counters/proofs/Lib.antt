@@ -12,4 +12,3 @@ pub mod PromiseLaws
 pub mod ReadLaws
 pub mod AgainLaws
 pub mod NumberLaws
-pub mod Examples

@@ -8,7 +8,7 @@ use native.Mathlib.Nat.{le-refl}
 use native.Mathlib.Decide.{ℕ-discrete}
 use native.Mathlib.Omega.{arith}
 use lib.Dec.{eqb}
-use lib.ListN.{length, getD, set, replicate, length-append, length-replicate, getD-replicate, List·getD-append, List·getD-eq-default}
+use lib.ListN.{length, getD, set, length-append, List·getD-append, List·getD-eq-default}
 use lib.Seq.{getD-append-seam, getD-append-add, getD-set-same, getD-set-other}
 use borrow.Author.Tests.{eq-eqb, ne-eqb, eqb-true, eqb-false}
 use Rattle.words.specs.Bits.{ones, listOf}
@@ -121,15 +121,6 @@ flip-number c s p whole within below small = go (lt-or (cell s p) 1)
         number-up (cell s) (cell (set s p (1 - cell s p))) (blocksOf c) p (set-more s p (1 - cell s p) below (omega arith)) (omega arith)
     go (inr l) =
         number-down (cell (set s p (1 - cell s p))) (cell s) (blocksOf c) p (set-less s p (1 - cell s p) below (omega arith)) (omega arith)
-
--- of a full strip, by the number of its counters and the number of changes
-pub full-number : (c p m d : ℕ) → c % 512 ≡ 0 → p < c → counterCount (blocksOf c) ≡ m → changeCount (blocksOf c) p ≡ d
-    → differ (builtCounters c (replicate c 1)) (builtCounters c (set (replicate c 1) p (1 - cell (replicate c 1) p))) m ≡ d
-full-number c p m d whole below count number =
-    ap (differ (builtCounters c (replicate c 1)) (builtCounters c (set (replicate c 1) p (1 - cell (replicate c 1) p)))) (sym count)
-    ∙ flip-number c (replicate c 1) p whole (omega (arith, length-replicate {A = ℕ} c 1)) (omega (arith, length-replicate {A = ℕ} c 1))
-    (omega (arith, getD-replicate {A = ℕ} c p 1 0 below))
-    ∙ number
 
 -- ---- a strip with one bit appended
 -- the cells but the new one stay

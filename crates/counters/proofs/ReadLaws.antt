@@ -17,7 +17,7 @@ use Rattle.words.specs.declared.refusal.Verdict.the-variants.{Refuse}
 use Rattle.words.proofs.Sums.{ones-flat, ones-le, ones-mono}
 use Rattle.words.proofs.WordLaws.{bitAt-le}
 use Rattle.words.proofs.CheckLaws.{not-both, judged-refuse}
-use Rattle.words.proofs.SearchLaws.{select-exists, select-place, select-none, select-longer, rank-le, rank-ones, value-rank, value-le}
+use Rattle.words.proofs.SearchLaws.{select-exists, select-place, select-none, select-longer, rank-ones, value-rank, value-le}
 use Rattle.words.proofs.StripLaws.{strip-rank, strip-select}
 use Rattle.counters.specs.Tree.{blocksOf}
 use Rattle.counters.specs.Record.{Fits, AllFit}
@@ -42,16 +42,8 @@ module _ (h : Handle) (ws cs : List ℕ) (v i x : ℕ) (small : v ≤ 1) (within
       AtMost.unfit
 
 -- ---- find
--- k not below the length: no such stroke, whatever the counters are
-pub select-beyond : (h : Handle) (ws cs : List ℕ) (v k : ℕ) → judge (selectTable h (length ws) (length cs) v) ≡ none → h .length ≤ k
-    → Selected h v k ws cs (refused 6)
-select-beyond h ws cs v k pass l =
-    promise-passed (selectTable h (length ws) (length cs) v) _ _ (Fits h ws cs) _ (refused 6) pass
-    (λ f. sym (ap found (strip-select ws (h .length) v k ∙ select-none (bitAt ws) (h .length) v k (omega (arith, rank-le (bitAt ws) v (h .length))))))
-    Below.absent
-
 module _ (h : Handle) (ws cs : List ℕ) (v k x : ℕ) (z : Sizes h ws cs) (small : v ≤ 1)
-    (pass : judge (selectTable h (length ws) (length cs) v) ≡ none)
+    (pass : judge (selectTable h (length ws) (length cs) v k) ≡ none)
     (total : (f : ℕ → ℕ) → AllFit f (blocksOf (h .capacity)) cs → ((p : ℕ) → 512 * blocksOf (h .capacity) ≤ p → f p ≡ 0) → x ≡ ones f (512 * blocksOf (h .capacity)))
   where
     -- the capacity, by its blocks
@@ -70,13 +62,13 @@ module _ (h : Handle) (ws cs : List ℕ) (v k x : ℕ) (z : Sizes h ws cs) (smal
 
     pub select-over : h .length < x → Selected h v k ws cs (refused 9)
     select-over l =
-        promise-passed (selectTable h (length ws) (length cs) v) _ _ (Fits h ws cs) _ (refused 9) pass
+        promise-passed (selectTable h (length ws) (length cs) v k) _ _ (Fits h ws cs) _ (refused 9) pass
         (λ f. absurd (omega (arith, total-is f, ones-le (bitAt ws) (h .length) (bitAt-le ws))))
         Below.unfit
 
     pub select-absent : ofValue v (h .length) x ≤ k → Selected h v k ws cs (refused 6)
     select-absent l =
-        promise-passed (selectTable h (length ws) (length cs) v) _ _ (Fits h ws cs) _ (refused 6) pass
+        promise-passed (selectTable h (length ws) (length cs) v k) _ _ (Fits h ws cs) _ (refused 6) pass
         (λ f. sym (ap found (strip-select ws (h .length) v k ∙ select-none (bitAt ws) (h .length) v k (omega (arith, number-is f)))))
         Below.absent
 
@@ -98,11 +90,11 @@ module _ (h : Handle) (ws cs : List ℕ) (v k x : ℕ) (z : Sizes h ws cs) (smal
 
       pub select-done : p < h .length → Selected h v k ws cs (value p)
       select-done l =
-          promise-passed (selectTable h (length ws) (length cs) v) _ _ (Fits h ws cs) _ (value p) pass (λ f. sym (place-is f .0)) (Below.is p l)
+          promise-passed (selectTable h (length ws) (length cs) v k) _ _ (Fits h ws cs) _ (value p) pass (λ f. sym (place-is f .0)) (Below.is p l)
 
       pub select-past : h .length ≤ p → Selected h v k ws cs (refused 9)
       select-past l =
-          promise-passed (selectTable h (length ws) (length cs) v) _ _ (Fits h ws cs) _ (refused 9) pass
+          promise-passed (selectTable h (length ws) (length cs) v k) _ _ (Fits h ws cs) _ (refused 9) pass
           (λ f. absurd (omega (arith, place-is f .1))) Below.unfit
 
 -- ---- check

@@ -11,7 +11,7 @@ use Rattle.words.specs.Bits.{listOf}
 use Rattle.words.specs.Strip.{cell, stripOf, rank, select}
 use Rattle.words.specs.Refusals.{Line, _⇒_, judge, unless, Told, value, refused, found}
 use Rattle.words.specs.Handles.{handle, stripLines}
-use Rattle.words.specs.Calls.{valueLine, belowLine, withinLine}
+use Rattle.words.specs.Calls.{valueLine, belowLine, withinLine, absentLine}
 use Rattle.counters.specs.Tree.{blocksOf, counterCount, changeCount}
 use Rattle.counters.specs.Record.{Fits, packedWords, builtCounters}
 use Rattle.counters.specs.Promises.{CreatedTold, created, uncreated, ChangedTold, done, Outcome, outcome, stays, Promise, Near, AtMost, Below}
@@ -92,13 +92,13 @@ abbrev pub Ranked : Handle → ℕ → ℕ → List ℕ → List ℕ → Told �
 Ranked h v i ws cs =
     Promise Told (judge (rankTable h (length ws) (length cs) v i)) refused (value (rank (held h ws) v i)) (Fits h ws cs) (AtMost 9 i)
 
--- find(v, k): 1, 2, 3; 8; then 6 no such stroke, that is k not below the number of v; then 9
-abbrev pub selectTable : Handle → ℕ → ℕ → ℕ → List Line
-selectTable h words counters v = checks h words counters ++ (valueLine v ∷ [])
+-- find(v, k): 1, 2, 3; 8; 6 where k is not below the length, on any record; on a fitting one 6 where it is not below the number of v, else 6 or 9 may come
+abbrev pub selectTable : Handle → ℕ → ℕ → ℕ → ℕ → List Line
+selectTable h words counters v k = checks h words counters ++ (valueLine v ∷ absentLine (h .length) k ∷ [])
 
 abbrev pub Selected : Handle → ℕ → ℕ → List ℕ → List ℕ → Told → Type 0
 Selected h v k ws cs =
-    Promise Told (judge (selectTable h (length ws) (length cs) v)) refused (found (select (held h ws) v k)) (Fits h ws cs) (Below 9 (h .length))
+    Promise Told (judge (selectTable h (length ws) (length cs) v k)) refused (found (select (held h ws) v k)) (Fits h ws cs) (Below 9 (h .length))
 
 -- check: 1, 2, 3; 9 exactly where the record does not fit, else the ones
 pub record Verified (h : Handle) (ws cs : List ℕ) (o : Told) : Type 0 where

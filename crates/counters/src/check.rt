@@ -82,9 +82,9 @@ pub fn check_rank(h: Handle, words: usize, counters: usize, v: u64, i: usize) ->
     check_value(h, words, counters == counter_count(h.capacity), v, i)
 }
 
-// find: then 8.
-pub fn check_select(h: Handle, words: usize, counters: usize, v: u64) -> Verdict
-    ensures { λ r. ⌜ verdictOf r ≡ judge (selectTable h words counters v) ⌝ }
+// find: then 8, and 6 where k is not below the length.
+pub fn check_select(h: Handle, words: usize, counters: usize, v: u64, k: usize) -> Verdict
+    ensures { λ r. ⌜ verdictOf r ≡ judge (selectTable h words counters v k) ⌝ }
 {
     let verdict = check_record(h, words, counters);
     let Verdict::Pass = verdict else {
@@ -92,6 +92,9 @@ pub fn check_select(h: Handle, words: usize, counters: usize, v: u64) -> Verdict
     };
     if 1 < v {
         return Verdict::Refuse(Refusal::BadValue);
+    }
+    if h.length <= k {
+        return Verdict::Refuse(Refusal::NotFound);
     }
     Verdict::Pass
 }

@@ -37,14 +37,11 @@ pub fn rank(h: Handle, words: &[u64], counters: &[u32], v: u64, i: usize) -> Ans
 pub fn select(h: Handle, words: &[u64], counters: &[u32], v: u64, k: usize) -> Answer
     ensures { λ r. ⌜ Selected h v k (now (words .entry)) (now (counters .entry)) (toldOf r) ⌝ }
 {
-    match check_select(h, words.len(), counters.len(), v) {
+    match check_select(h, words.len(), counters.len(), v, k) {
         Verdict::Refuse(r) => Answer::Refused(r),
         Verdict::Pass => {
             let capacity = h.capacity;
             let n = h.length;
-            if n <= k {
-                return Answer::Refused(Refusal::NotFound);
-            }
             let blocks = capacity / BLOCK_BITS;
             let ones = ones_held(counters, blocks);
             if n < ones {

@@ -16,8 +16,8 @@ use Rattle.words.specs.Strip.{cell, stripOf, rank, select, orElse}
 use Rattle.words.specs.Words.{placeIn}
 use Rattle.words.specs.Refusals.{Line, judge, unless, Told, value, refused, found}
 use Rattle.words.specs.Handles.{untaken, stripLines}
-use Rattle.words.specs.Calls.{valueLine, belowLine, withinLine, getTold}
-use Rattle.words.proofs.CheckLaws.{passed-both}
+use Rattle.words.specs.Calls.{valueLine, belowLine, withinLine, absentLine, getTold}
+use Rattle.words.proofs.CheckLaws.{absent-found, passed-both}
 use Rattle.counters.specs.Record.{Fits}
 use Rattle.counters.specs.Promises.{Promise, Below}
 use Rattle.counters.specs.Calls.{checks, rankTable, Ranked, selectTable, Selected}
@@ -401,7 +401,8 @@ pub promise-exact : {A : Type 0} {refuse : ℕ → A} {late : A} {Fit : Type 0} 
 promise-exact none p f = p .exact refl f
 promise-exact (some n) p f = p .early n refl
 
--- a row gives strip t back: it opens, it has t's length and bits and is right, and look, count and find answer by the definitions over t
+-- a row gives strip t back: it opens, it has t's length and bits and is right, and look, count and find answer by the definitions over t,
+-- find for every k
 pub record GivesBack (s : List ℕ) (label : ℕ) (t : List ℕ) : Type 0 where
   pub opens : judge (openTable s label) ≡ none
   pub size : rowLength s label ≡ length t
@@ -431,10 +432,11 @@ gives-back s label t e n b r =
           (after-lines (openTable s label) (valueLine v ∷ withinLine (rowLength s label) i ∷ []) e)
           ∙ ap₂ (λ (m : ℕ) (z : List ℕ). unless (judge (valueLine v ∷ withinLine m i ∷ [])) refused (value (rank z v i))) n b;
       find = λ v k o p.
-          promise-exact (judge (openTable s label ++ (valueLine v ∷ []))) p r
+          promise-exact (judge (openTable s label ++ (valueLine v ∷ absentLine (rowLength s label) k ∷ []))) p r
           ∙ ap (λ (x : Option ℕ). unless x refused (found (select (rowBits (rowPart s label) (rowLength s label)) v k)))
-          (after-lines (openTable s label) (valueLine v ∷ []) e)
-          ∙ ap (λ (z : List ℕ). unless (judge (valueLine v ∷ [])) refused (found (select z v k))) b;
+          (after-lines (openTable s label) (valueLine v ∷ absentLine (rowLength s label) k ∷ []) e)
+          ∙ ap₂ (λ (m : ℕ) (z : List ℕ). unless (judge (valueLine v ∷ absentLine m k ∷ [])) refused (found (select z v k))) n b
+          ∙ absent-found (valueLine v ∷ []) t v k;
     }
 
 -- a row is the same in both images: its place and length, every byte but its next index, its bits, whether it is right, and what is promised of its readings
@@ -483,7 +485,7 @@ row-kept s t l es et p n d hs ht ks kt =
           promise-map (table (λ x. valueLine v ∷ withinLine x i ∷ [])) (ap (λ (z : List ℕ). value (rank z v i)) b) r
           (λ x. x) q;
       find = λ v k o q.
-          promise-map (table (λ x. valueLine v ∷ [])) (ap (λ (z : List ℕ). found (select z v k)) b) r (subst (λ (x : ℕ). Below 15 x o) n) q;
+          promise-map (table (λ x. valueLine v ∷ absentLine x k ∷ [])) (ap (λ (z : List ℕ). found (select z v k)) b) r (subst (λ (x : ℕ). Below 15 x o) n) q;
     }
 
 -- ---- the rows of a frozen image
@@ -596,7 +598,10 @@ module _ (h : Handle) (ws s : List ℕ) (label : ℕ) (e : judge (freezeTable h 
   pub freeze-find : (cs : List ℕ) → Fits h ws cs → judge (checks h (length ws) (length cs)) ≡ none → (v k : ℕ) (o p : Told) → RowSelected after label v k o
       → Selected h v k ws cs p → o ≡ p
   freeze-find cs fit c v k o p a b =
+      let n = strip-length ws (h .length) in
       let t : List ℕ = stripOf ws (h .length) in
       freeze-gives .find v k o a
-      ∙ ap (λ (x : Option ℕ). unless x refused (found (select t v k))) (sym (after-lines (checks h (length ws) (length cs)) (valueLine v ∷ []) c))
-      ∙ sym (promise-exact (judge (selectTable h (length ws) (length cs) v)) b fit)
+      ∙ sym (absent-found (valueLine v ∷ []) t v k)
+      ∙ ap (λ (x : ℕ). unless (judge (valueLine v ∷ absentLine x k ∷ [])) refused (found (select t v k))) n
+      ∙ ap (λ (x : Option ℕ). unless x refused (found (select t v k))) (sym (after-lines (checks h (length ws) (length cs)) (valueLine v ∷ absentLine (h .length) k ∷ []) c))
+      ∙ sym (promise-exact (judge (selectTable h (length ws) (length cs) v k)) b fit)

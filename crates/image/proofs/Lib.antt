@@ -7,10 +7,11 @@ pub mod FrozenLaws
 pub mod NumberLaws
 pub mod EntryLaws
 pub mod PartLaws
+pub mod SameLaws
 pub mod RightLaws
 pub mod WrittenLaws
 pub mod RowLaws
+pub mod InspectLaws
 pub mod OpenedLaws
 pub mod ShapeLaws
 pub mod HeldLaws
-pub mod Examples

@@ -10,7 +10,7 @@ use borrow.Author.Tests.{le-leb}
 use lib.ListN.{length}
 use Rattle.words.specs.Strip.{cell, rank, select}
 use Rattle.words.specs.Refusals.{Line, judge, unless, Told, value, refused, found}
-use Rattle.words.specs.Calls.{valueLine, belowLine, withinLine}
+use Rattle.words.specs.Calls.{valueLine, belowLine, withinLine, absentLine}
 use Rattle.counters.specs.Promises.{Promise, AtMost, Below}
 use Rattle.image.specs.Chain.{lengthAt}
 use Rattle.image.specs.Rows.{rowBits, Right}
@@ -67,7 +67,7 @@ module _ (s : List ℕ) (label : ℕ) (e : judge (openTable s label) ≡ none) w
       let p : List ℕ = rowPart s label in
       let n : ℕ = rowLength s label in
       subst (λ (o : Option ℕ). Promise Told o refused (found (select (rowBits p n) v k)) (Right p n) (Below 15 n) t)
-      (sym (table-opened s label p n (valueLine v ∷ []) e (part-good s (rowPlace s label) facts)))
+      (sym (table-opened s label p n (valueLine v ∷ absentLine n k ∷ []) e (part-good s (rowPlace s label) facts)))
       (subst (λ (q : List ℕ). PartSelected q n v k t) opened-part (subst (λ (m : ℕ). PartSelected (openPart s label) m v k t) opened-held h))
 
 -- ---- a refused opening
@@ -95,4 +95,4 @@ empty-rank n v i t p = p .early 10 (empty-refused n (valueLine v ∷ withinLine 
 
 -- find
 pub empty-select : (n v k : ℕ) (t : Told) → PartSelected [] n v k t → t ≡ refused 10
-empty-select n v k t p = p .early 10 (empty-refused n (valueLine v ∷ []))
+empty-select n v k t p = p .early 10 (empty-refused n (valueLine v ∷ absentLine n k ∷ []))

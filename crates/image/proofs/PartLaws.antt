@@ -19,7 +19,7 @@ use Rattle.words.specs.Refusals.{Line, judge, Told, value, refused, found}
 use Rattle.words.proofs.BoolLaws.{and-first, and-second}
 use Rattle.words.proofs.Sums.{lt-or, ones-zero, ones-le, ones-mono, part-ones, length-listOf, getD-listOf}
 use Rattle.words.proofs.BitLaws.{bit-le, one-shl}
-use Rattle.words.proofs.SearchLaws.{select-exists, select-place, select-none, rank-le, select-longer, rank-part, part-select, value-rank, value-le}
+use Rattle.words.proofs.SearchLaws.{select-exists, select-place, select-none, select-longer, rank-part, part-select, value-rank, value-le}
 use Rattle.counters.specs.Promises.{Promise, AtMost, Below}
 use Rattle.counters.proofs.PromiseLaws.{promise-passed}
 use Rattle.image.specs.Bytes.{num, bitFrom}
@@ -304,15 +304,6 @@ module _ (t : List Line) (part : List ℕ) (n v i x : ℕ) (pass : judge t ≡ n
       promise-passed t refused (value (rank (rowBits part n) v i)) (Right part n) (AtMost 15 i) (refused 15) pass
       (λ right. absurd (omega (arith, counted right, ones-le (bitsOf part n) i (row-le part n))))
       AtMost.unfit
-
--- ---- find, where a call's table passes and k is not below the length: no such stroke, whatever the entries are
-pub select-beyond : (t : List Line) (part : List ℕ) (n v k : ℕ) → judge t ≡ none → n ≤ k
-    → Promise Told (judge t) refused (found (select (rowBits part n) v k)) (Right part n) (Below 15 n) (refused 6)
-select-beyond t part n v k pass l =
-    promise-passed t refused (found (select (rowBits part n) v k)) (Right part n) (Below 15 n) (refused 6) pass
-    (λ right. sym (ap found
-    (ap (λ (m : ℕ). selectOf (bitsOf part n) m v k) (row-length part n) ∙ select-none (bitsOf part n) n v k (omega (arith, rank-le (bitsOf part n) v n)))))
-    Below.absent
 
 -- ---- find, where a call's table passes: x is the number of ones that the record says
 module _ (t : List Line) (part : List ℕ) (n v k x : ℕ) (pass : judge t ≡ none) (small : v ≤ 1) (short : n ≤ 134217728) (said : x ≡ onesAt part 0) where

@@ -11,12 +11,12 @@ use Rattle.words.specs.Strip.{cell, stripOf, rank, select}
 use Rattle.words.specs.Words.{placeIn}
 use Rattle.words.specs.Refusals.{Line, _⇒_, judge, unless, Told, value, refused, found}
 use Rattle.words.specs.Handles.{untaken, stripLines}
-use Rattle.words.specs.Calls.{valueLine, belowLine, withinLine}
+use Rattle.words.specs.Calls.{valueLine, belowLine, withinLine, absentLine}
 use Rattle.counters.specs.Promises.{Promise, AtMost, Below}
 use Rattle.image.specs.Bytes.{le}
 use Rattle.image.specs.Layout.{unitBytes, headBytes, mostRow, sizeOf, recordOf}
 use Rattle.image.specs.Chain.{headerOf, labelAt, lengthAt, goodLabel, goodSize, chainOf, placeOf, endOf, linkOf}
-use Rattle.image.specs.Rows.{partAt, rowBits, Right}
+use Rattle.image.specs.Rows.{partAt, rowBits, rightPart, Right}
 
 -- whether there is something
 abbrev pub isSome : {A : Type 0} → Option A → Bool
@@ -40,16 +40,16 @@ abbrev pub imageOutcome : Told → List ℕ → ImageOutcome
 imageOutcome t s = record { told = t; image = s }
 
 -- clear: 13 image under 16 or over 2^32 bytes
-abbrev pub clearTable : List ℕ → List Line
-clearTable s = (not (goodSize (length s)) ⇒ 13) ∷ []
+abbrev pub clearTable : ℕ → List Line
+clearTable bytes = (not (goodSize bytes) ⇒ 13) ∷ []
 
 -- it writes the header of an empty chain and no other byte, and answers 16
 abbrev pub clearOutcome : List ℕ → ImageOutcome
-clearOutcome s = unless (judge (clearTable s)) (λ n. imageOutcome (refused n) s) (imageOutcome (value unitBytes) (headerOf 0 ++ drop unitBytes s))
+clearOutcome s = unless (judge (clearTable (length s))) (λ n. imageOutcome (refused n) s) (imageOutcome (value unitBytes) (headerOf 0 ++ drop unitBytes s))
 
 -- 10 chain not sound
-abbrev pub chainLine : List ℕ → Line
-chainLine s = not (isSome (chainOf s)) ⇒ 10
+abbrev pub soundLine : Bool → Line
+soundLine sound = not sound ⇒ 10
 
 -- 11 label not 1 to 64
 abbrev pub labelLine : ℕ → Line
@@ -59,10 +59,14 @@ labelLine label = not (goodLabel label) ⇒ 11
 abbrev pub recordWith : List ℕ → ℕ → Option ℕ
 recordWith s label = placeOf s label (recordsOf s)
 
--- a new record of so many bytes: 10; 11; 12 label present; 13 the record does not end inside the image
+-- a new record that ends at byte `end` of an image of `bytes` bytes: 10 chain not sound; 11; 12 label present; 13 the record does not end inside the image
+abbrev pub placeLines : Bool → ℕ → Bool → ℕ → ℕ → List Line
+placeLines sound label present bytes end = soundLine sound ∷ labelLine label ∷ (present ⇒ 12) ∷ (ltb bytes end ⇒ 13) ∷ []
+
+-- a new record of `size` bytes, at the end of an image's chain
 abbrev pub recordLines : List ℕ → ℕ → ℕ → List Line
 recordLines s label size =
-    chainLine s ∷ labelLine label ∷ (isSome (recordWith s label) ⇒ 12) ∷ (ltb (length s) (endOf s (recordsOf s) + size) ⇒ 13) ∷ []
+    placeLines (isSome (chainOf s)) label (isSome (recordWith s label)) (length s) (endOf s (recordsOf s) + size)
 
 -- freeze(label): words only; 1, 2; 10; 11; 12; 13
 abbrev pub freezeTable : Handle → ℕ → List ℕ → ℕ → List Line
@@ -79,9 +83,27 @@ freezeOutcome h ws s label =
     unless (judge (freezeTable h (length ws) s label)) (λ n. imageOutcome (refused n) s)
     (imageOutcome (value (endOf s (recordsOf s) / unitBytes)) (frozen s label (stripOf ws (h .length))))
 
--- opening a row: 10; 11; 14 label absent
+-- a row by its label: 10; 11; 14 label absent
+abbrev pub rowLines : Bool → ℕ → Bool → List Line
+rowLines sound label present = soundLine sound ∷ labelLine label ∷ (not present ⇒ 14) ∷ []
+
+-- inspect: 10; 15 some row's ones, entries or padding wrong
+abbrev pub inspectLines : Bool → Bool → List Line
+inspectLines sound right = soundLine sound ∷ (not right ⇒ 15) ∷ []
+
+-- whether every row of some records is right
+unfoldable pub allRight : List ℕ → List ℕ → Bool
+allRight s [] = true
+allRight s (a ∷ rs) = rightPart (partAt s a) (lengthAt s a) && allRight s rs
+
+-- it answers the number of rows
+abbrev pub inspectTold : List ℕ → Told
+inspectTold s =
+    unless (judge (inspectLines (isSome (chainOf s)) (allRight s (recordsOf s)))) refused (value (length (recordsOf s)))
+
+-- opening a row
 abbrev pub openTable : List ℕ → ℕ → List Line
-openTable s label = chainLine s ∷ labelLine label ∷ (not (isSome (recordWith s label)) ⇒ 14) ∷ []
+openTable s label = rowLines (isSome (chainOf s)) label (isSome (recordWith s label))
 
 -- the place of a label's record, the row's own part of the image, and its length
 abbrev pub rowPlace : List ℕ → ℕ → ℕ
@@ -127,10 +149,10 @@ abbrev pub PartRanked : List ℕ → ℕ → ℕ → ℕ → Told → Type 0
 PartRanked part n v i =
     Promise Told (judge (partLine part n ∷ valueLine v ∷ withinLine n i ∷ [])) refused (value (rank (rowBits part n) v i)) (Right part n) (AtMost 15 i)
 
--- find(v, k) on a part: 10; 8; then 6; then 15
+-- find(v, k) on a part: 10; 8; 6 where k is not below the length, on any row; on a right one 6 where it is not below the number of v, else 6 or 15 may come
 abbrev pub PartSelected : List ℕ → ℕ → ℕ → ℕ → Told → Type 0
 PartSelected part n v k =
-    Promise Told (judge (partLine part n ∷ valueLine v ∷ [])) refused (found (select (rowBits part n) v k)) (Right part n) (Below 15 n)
+    Promise Told (judge (partLine part n ∷ valueLine v ∷ absentLine n k ∷ [])) refused (found (select (rowBits part n) v k)) (Right part n) (Below 15 n)
 
 -- A row of an image, by its label: 10; 11; 14; then as on its part.
 
@@ -148,5 +170,5 @@ RowRanked s label v i =
 -- row find: then 8; 6; 15 last
 abbrev pub RowSelected : List ℕ → ℕ → ℕ → ℕ → Told → Type 0
 RowSelected s label v k =
-    Promise Told (judge (openTable s label ++ (valueLine v ∷ []))) refused
+    Promise Told (judge (openTable s label ++ (valueLine v ∷ absentLine (rowLength s label) k ∷ []))) refused
     (found (select (rowBits (rowPart s label) (rowLength s label)) v k)) (Right (rowPart s label) (rowLength s label)) (Below 15 (rowLength s label))

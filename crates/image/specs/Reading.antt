@@ -1,4 +1,4 @@
--- Derived, for inner contracts: what the entries of a row's part say, and where a search over its blocks of 512 bits stands. Laws in proofs/ tie them to
+-- Derived, for inner contracts: what the entries of a row's part say, where a search over its blocks of 512 bits stands, and its padding. Laws in proofs/ tie them to
 -- the definitions. Assumes nothing.
 use Prim.Native.Nat.{ℕ, zero, suc, _+_, _*_, _/_, _%_, _^_, _≤_, _<_}
 use mathlib.Core.Path.{_≡_}
@@ -6,8 +6,8 @@ use mathlib.Core.List.{List}
 use mathlib.Core.Logic.{_⊎_}
 use Rattle.words.specs.Working.{ofValue}
 use Rattle.words.specs.Handles.{blockBits}
-use Rattle.image.specs.Bytes.{num}
-use Rattle.image.specs.Layout.{headBytes, entryBytes}
+use Rattle.image.specs.Bytes.{num, bitFrom}
+use Rattle.image.specs.Layout.{superblockBits, headBytes, entryBytes, superblocksOf, bitsStart}
 
 -- the fields of an entry v: the ones before its superblock, and those of the superblock before its block j
 abbrev pub superblockField : ℕ → ℕ
@@ -30,3 +30,7 @@ entryValues part v m = ofValue v (blockBits * m) (entryOnes part m)
 pub record Halved (P : ℕ → ℕ) (end k lo hi : ℕ) : Type 0 where
   pub low : (lo ≡ 0) ⊎ (P lo ≤ k)
   pub high : (end ≤ hi) ⊎ (k < P hi)
+
+-- the bits of a row's part past its length n are zero, to the end of its last superblock
+abbrev pub PaddingZero : List ℕ → ℕ → Type 0
+PaddingZero part n = (p : ℕ) → n ≤ p → p < superblockBits * superblocksOf n → bitFrom part (bitsStart n) p ≡ 0

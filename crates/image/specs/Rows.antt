@@ -1,12 +1,15 @@
--- A row by its own part of the image: its bits, and whether it is right. Assumes nothing.
-use Prim.Native.Nat.{ℕ}
+-- A row by its own part of the image: its bits, and whether it is right; an image whose rows all are. Assumes nothing.
+use Prim.Native.Nat.{ℕ, _<_}
 use mathlib.Core.Path.{_≡_}
-use mathlib.Core.List.{List}
-use lib.ListN.{take, drop}
+use mathlib.Core.Bool.{Bool, true, false, _&&_}
+use mathlib.Core.List.{List, [], _∷_}
+use mathlib.Core.Option.{some}
+use lib.ListN.{length, getD, take, drop}
+use lib.Dec.{eqb}
 use Rattle.words.specs.Bits.{listOf}
 use Rattle.image.specs.Bytes.{bitFrom}
 use Rattle.image.specs.Layout.{bitsStart, sizeOf, recordOf}
-use Rattle.image.specs.Chain.{nextAt, labelAt, lengthAt}
+use Rattle.image.specs.Chain.{nextAt, labelAt, lengthAt, chainOf}
 
 -- the row's own part of the image, from its record's start to its end
 abbrev pub partAt : List ℕ → ℕ → List ℕ
@@ -16,6 +19,35 @@ partAt s a = take (sizeOf (lengthAt s a)) (drop a s)
 abbrev pub rowBits : List ℕ → ℕ → List ℕ
 rowBits part n = listOf (bitFrom part (bitsStart n)) n
 
+-- whether two lists of bytes are the same
+unfoldable pub same : List ℕ → List ℕ → Bool
+same [] [] = true
+same [] (y ∷ ys) = false
+same (x ∷ xs) [] = false
+same (x ∷ xs) (y ∷ ys) = eqb x y && same xs ys
+
 -- a row is right, its ones, entries and padding, when its part is the record that would be written for its bits
 abbrev pub Right : List ℕ → ℕ → Type 0
 Right part n = part ≡ recordOf (nextAt part 0) (labelAt part 0) (rowBits part n)
+
+-- whether a row is right
+abbrev pub rightPart : List ℕ → ℕ → Bool
+rightPart part n = same part (recordOf (nextAt part 0) (labelAt part 0) (rowBits part n))
+
+-- the row of the record at byte a is right
+abbrev pub RightAt : List ℕ → ℕ → Type 0
+RightAt s a = Right (partAt s a) (lengthAt s a)
+
+-- an image that obeys the layout: a sound chain of right rows
+pub record Obeys (s : List ℕ) : Type 0 where
+  pub records : List ℕ
+  pub sound : chainOf s ≡ some records
+  pub right : (i : ℕ) → i < length records → RightAt s (getD records i 0)
+
+-- one whose chain is sound and some row of which is not right
+pub record HasWrongRow (s : List ℕ) : Type 0 where
+  pub records : List ℕ
+  pub sound : chainOf s ≡ some records
+  pub index : ℕ
+  pub within : index < length records
+  pub wrong : RightAt s (getD records index 0) → ⊥

@@ -44,7 +44,7 @@ fn block_field(low: u64, high: u64, j: usize) -> u64
     (high >> (12 * j - 32)) % 4096
 }
 
-// The ones before block m, as the entry of its superblock says. No other function reads an entry.
+// The ones before block m, as the entry of its superblock says. No other function takes an entry apart.
 fn entry_ones(part: &[u8], m: usize) -> usize
     requires { ⌜ 32 + 16 * (m / 8) ≤ length (now part) ⌝ }
     ensures { λ r. ⌜ (r ≡ entryOnes (now (part .entry)) m) × (r < 17592186048512) ⌝ }
@@ -56,7 +56,7 @@ fn entry_ones(part: &[u8], m: usize) -> usize
 }
 
 // The 512 bits from byte `at` on, as eight words.
-fn block_at(part: &[u8], at: usize) -> [u64; 8]
+pub fn block_at(part: &[u8], at: usize) -> [u64; 8]
     requires { ⌜ at + 64 ≤ length (now part) ⌝ }
     ensures { λ r. ⌜ (length r ≡ 8) × ((p : ℕ) → p < 512 → bitAt r p ≡ bitFrom (now (part .entry)) at p) ⌝ }
 {

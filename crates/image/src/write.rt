@@ -88,9 +88,9 @@ fn put_superblock(bytes: &mut [u8], at: usize, words: &[u64], w: usize) -> [usiz
 }
 
 // An entry as two words, the low one first.
-struct Halves {
-    low: u64,
-    high: u64,
+pub struct Halves {
+    pub low: u64,
+    pub high: u64,
 }
 
 // An entry from its eight numbers: a from bit 0 on, c1 from bit 44 on, and so on by 12 bits. Those of c2, from bit 56 on, lie in both halves.
@@ -109,7 +109,7 @@ fn entry_of(a: u64, c1: u64, c2: u64, c3: u64, c4: u64, c5: u64, c6: u64, c7: u6
 }
 
 // An entry from the ones before its superblock and the ones up to the end of each of the superblock's blocks.
-fn entry_halves(sum: usize, counts: [usize; 8]) -> Halves
+pub fn entry_halves(sum: usize, counts: [usize; 8]) -> Halves
     requires { ⌜ (sum < 2 ^ 44) × (length counts ≡ 8) × ((j : ℕ) → j < 7 → getD counts j 0 < 4096) ⌝ }
     ensures { λ r. ⌜ (r .low + 2 ^ 64 * r .high ≡ sum + 2 ^ 44 * digits (2 ^ 12) (λ j. getD counts j 0) 7) × (r .low < 2 ^ 64) ⌝ }
 {

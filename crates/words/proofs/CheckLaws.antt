@@ -5,17 +5,19 @@ use mathlib.Core.List.{List, [], _∷_, _++_}
 use mathlib.Core.Option.{Option, some, none}
 use Prim.Native.Nat.{ℕ, _%_, _≤_, _<_}
 use native.Mathlib.Omega.{arith}
+use lib.ListN.{length}
 use lib.Dec.{leb, eqb}
 use borrow.Author.Tests.{eqb-true, leb-true, leb-false, ltb-false}
 use Rattle.words.specs.declared.handle.Handle.{Handle}
 use Rattle.words.specs.declared.refusal.Refusal.{Refusal}
 use Rattle.words.specs.declared.refusal.Verdict.{Verdict}
 use Rattle.words.specs.declared.refusal.Verdict.the-variants.{Pass, Refuse}
-use Rattle.words.specs.Strip.{orElse}
-use Rattle.words.specs.Refusals.{numberOf, Line, judge, verdictOf, unless}
+use Rattle.words.specs.Strip.{cell, orElse, select}
+use Rattle.words.specs.Refusals.{numberOf, Line, _⇒_, judge, verdictOf, unless, refused, found}
 use Rattle.words.specs.Handles.{blockBits, mostBits, allowed, good, wordsOf, stripLines}
-use Rattle.words.specs.Calls.{valueLine, belowLine, withinLine, belowTable, valueTable}
+use Rattle.words.specs.Calls.{valueLine, belowLine, withinLine, absentLine, belowTable, valueTable}
 use Rattle.words.proofs.BoolLaws.{and-first, and-second, not-not}
+use Rattle.words.proofs.SearchLaws.{select-beyond}
 
 -- one table after another
 pub judge-append : (a b : List Line) → judge (a ++ b) ≡ orElse (judge a) (judge b)
@@ -54,6 +56,18 @@ unless-refused t v r refuse late e d = ap (λ (o : Option ℕ). unless o refuse 
 pub unless-passed : {A : Type 0} (t : List Line) (v : Verdict) (refuse : ℕ → A) (late : A) → verdictOf v ≡ judge t → v ≡ Pass
     → late ≡ unless (judge t) refuse late
 unless-passed t v refuse late e d = ap (λ (o : Option ℕ). unless o refuse late) (sym (judged-pass t v e d))
+
+-- the line of a k not below the length refuses what the search does not find: a find whose table ends with it answers for every k as one without
+pub absent-found : (t : List Line) (s : List ℕ) (v k : ℕ)
+    → unless (judge (t ++ (absentLine (length s) k ∷ []))) refused (found (select s v k)) ≡ unless (judge t) refused (found (select s v k))
+absent-found t s v k =
+    ap (λ (o : Option ℕ). unless o refused (found (select s v k))) (judge-append t (absentLine (length s) k ∷ [])) ∙ go (judge t) (leb (length s) k) refl
+  where
+    go : (o : Option ℕ) (b : Bool) → leb (length s) k ≡ b
+        → unless (orElse o (judge ((b ⇒ 6) ∷ []))) refused (found (select s v k)) ≡ unless o refused (found (select s v k))
+    go (some n) b e = refl
+    go none true e = ap found (sym (select-beyond (cell s) (length s) v k (leb-true _ _ e)))
+    go none false e = refl
 
 -- no line applies
 abbrev pub Passes : List Line → Type 0

@@ -15,4 +15,3 @@ mod BlockSelectLaws
 pub mod ScanLaws
 pub mod CheckLaws
 pub mod StripLaws
-pub mod Examples

@@ -234,6 +234,10 @@ place-in f g a w n v k under e part top eu l h =
 pub rank-le : (f : ℕ → ℕ) (v n : ℕ) → rankOf f v n ≤ n
 rank-le f v n = ones-le (holds f v) n (holds-le f v)
 
+-- so k not below the number of positions is not below the number of v
+pub select-beyond : (f : ℕ → ℕ) (n v k : ℕ) → n ≤ k → selectOf f n v k ≡ none
+select-beyond f n v k h = select-none f n v k (omega (arith, rank-le f v n))
+
 -- of bits, the rank of 1 is the ones
 pub rank-ones : (f : ℕ → ℕ) (n : ℕ) → ((p : ℕ) → f p ≤ 1) → rankOf f 1 n ≡ ones f n
 rank-ones f n h = ones-ext (holds f 1) f n (λ p l. holds-one f p (h p))

@@ -21,6 +21,10 @@ belowLine n i = leb n i ⇒ 4
 abbrev pub withinLine : ℕ → ℕ → Line
 withinLine n i = ltb n i ⇒ 4
 
+-- 6 no such stroke: k not below the length n, and so not below the number of v
+abbrev pub absentLine : ℕ → ℕ → Line
+absentLine n k = leb n k ⇒ 6
+
 -- a call that takes a position below the length: 1, 2, 3; 4
 abbrev pub belowTable : Handle → ℕ → Bool → ℕ → List Line
 belowTable h words counted i = stripLines h words counted ++ (belowLine (h .length) i ∷ [])

@@ -1,5 +1,6 @@
 -- The refusals, their numbers, ordered tables of them, and what a call tells that changes no strip. Assumes nothing.
 use Prim.Native.Nat.{ℕ, _+_, _^_}
+use mathlib.Core.Path.{_≡_}
 use mathlib.Core.Bool.{Bool, cond}
 use mathlib.Core.List.{List, [], _∷_}
 use mathlib.Core.Option.{Option, some, none}
@@ -71,3 +72,9 @@ found none = refused 6
 abbrev pub coded : Told → ℕ
 coded (value x) = x
 coded (refused n) = 2 ^ 32 + n
+
+-- r is the code of something told of which P holds
+pub record CodedAs (P : Told → Type 0) (r : ℕ) : Type 0 where
+  pub told : Told
+  pub holds : P told
+  pub code : r ≡ coded told

@@ -2,8 +2,8 @@
 use mathlib.Core.Path.{sym, _∙_}
 use mathlib.Core.List.{[], _∷_}
 use borrow.Author.Needs.{needs}
-use borrow.Author.Tests.{le-ltb, lt-ltb}
-use Rattle.words.specs.Calls.{valueLine}
+use borrow.Author.Tests.{le-leb, le-ltb, lt-leb, lt-ltb}
+use Rattle.words.specs.Calls.{valueLine, absentLine}
 use Rattle.words.proofs.CheckLaws.{refused-first, passed-first}
 use Rattle.counters.specs.Calls.{checks}
 use Rattle.counters.proofs.check.check_select.Statement.{statement}
@@ -21,21 +21,28 @@ enum-told-2 c = search needs
 returns : tie.Need-returns
 returns c =
     let a = c .before .before .before .args in
-    refused-first (checks (a .h) (a .words) (a .counters)) (valueLine (a .v) ∷ []) _ _ (c .before .before .check-record .ensures) (c .enum-told2 .given .1)
+    refused-first (checks (a .h) (a .words) (a .counters)) (valueLine (a .v) ∷ absentLine (a .h .length) (a .k) ∷ []) _ _ (c .before .before .check-record .ensures) (c .enum-told2 .given .1)
 
 returns-2 : tie.Need-returns-2
 returns-2 c =
     let a = c .before .before .before .before .args in
-    sym (passed-first (checks (a .h) (a .words) (a .counters)) (valueLine (a .v) ∷ []) _
+    sym (passed-first (checks (a .h) (a .words) (a .counters)) (valueLine (a .v) ∷ absentLine (a .h .length) (a .k) ∷ []) _
     (c .before .before .before .check-record .ensures) (c .before .enum-told .given .1)
     ∙ simp (lt-ltb _ _ (c .if1 .taken)))
 
 returns-3 : tie.Need-returns-3
 returns-3 c =
-    let a = c .before .before .before .before .args in
-    sym (passed-first (checks (a .h) (a .words) (a .counters)) (valueLine (a .v) ∷ []) _
-    (c .before .before .before .check-record .ensures) (c .before .enum-told .given .1)
-    ∙ simp (le-ltb _ _ (c .if1 .left)))
+    let a = c .before .before .before .before .before .before .args in
+    sym (passed-first (checks (a .h) (a .words) (a .counters)) (valueLine (a .v) ∷ absentLine (a .h .length) (a .k) ∷ []) _
+    (c .before .before .before .before .before .check-record .ensures) (c .before .before .before .enum-told .given .1)
+    ∙ simp (le-ltb _ _ (c .before .before .if1 .left), le-leb _ _ (c .if2 .taken)))
+
+returns-4 : tie.Need-returns-4
+returns-4 c =
+    let a = c .before .before .before .before .before .before .args in
+    sym (passed-first (checks (a .h) (a .words) (a .counters)) (valueLine (a .v) ∷ absentLine (a .h .length) (a .k) ∷ []) _
+    (c .before .before .before .before .before .check-record .ensures) (c .before .before .before .enum-told .given .1)
+    ∙ simp (le-ltb _ _ (c .before .before .if1 .left), lt-leb _ _ (c .if2 .left)))
 
 pub check-select-spec : {M : Type 1} → statement M
-check-select-spec = tie.close (tie.spec check-record-requires enum-told enum-told-2 returns returns-2 returns-3)
+check-select-spec = tie.close (tie.spec check-record-requires enum-told enum-told-2 returns returns-2 returns-3 returns-4)

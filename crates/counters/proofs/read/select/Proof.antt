@@ -8,11 +8,11 @@ use borrow.Author.Needs.{needs}
 use lib.ListN.{length}
 use borrow.Author.Tests.{ltb-false}
 use Rattle.words.specs.Refusals.{judge, refused}
-use Rattle.words.specs.Calls.{valueLine}
+use Rattle.words.specs.Calls.{valueLine, absentLine}
 use Rattle.words.proofs.CheckLaws.{judged-pass, Passes}
 use Rattle.counters.specs.Calls.{selectTable}
 use Rattle.counters.proofs.PromiseLaws.{promise-refused, Sizes, sizes-of, lines-of}
-use Rattle.counters.proofs.ReadLaws.{select-beyond, select-over, select-absent, select-done, select-past}
+use Rattle.counters.proofs.ReadLaws.{select-over, select-absent, select-done, select-past}
 use Rattle.counters.proofs.read.select.Statement.{statement}
 use Rattle.counters.proofs.read.select.Tie as tie
 
@@ -28,10 +28,11 @@ enum-told c = search needs
 -- the table passes
 passed : (c : tie.After-enum-told)
     → judge (selectTable (c .before .before .before .before .before .args .h) (length (c .before .before .before .before .before .args .words .now))
-    (length (c .before .before .before .before .before .args .counters .now)) (c .before .before .before .before .before .args .v)) ≡ none
+    (length (c .before .before .before .before .before .args .counters .now)) (c .before .before .before .before .before .args .v)
+    (c .before .before .before .before .before .args .k)) ≡ none
 passed c =
     let a = c .before .before .before .before .before .args in
-    judged-pass (selectTable (a .h) (length (a .words .now)) (length (a .counters .now)) (a .v)) (c .before .before .check-select .result)
+    judged-pass (selectTable (a .h) (length (a .words .now)) (length (a .counters .now)) (a .v) (a .k)) (c .before .before .check-select .result)
     (c .before .before .check-select .ensures) (c .enum-told .given .1)
 
 -- what the checks leave
@@ -40,73 +41,69 @@ known : (c : tie.After-enum-told)
     (c .before .before .before .before .before .args .counters .now)
 known c =
     let a = c .before .before .before .before .before .args in
-    sizes-of (a .h) (a .words .now) (a .counters .now) (valueLine (a .v) ∷ []) (passed c)
+    sizes-of (a .h) (a .words .now) (a .counters .now) (valueLine (a .v) ∷ absentLine (a .h .length) (a .k) ∷ []) (passed c)
 
 -- and its own lines
-own : (c : tie.After-enum-told) → Passes (valueLine (c .before .before .before .before .before .args .v) ∷ [])
+own : (c : tie.After-enum-told)
+    → let a = c .before .before .before .before .before .args in Passes (valueLine (a .v) ∷ absentLine (a .h .length) (a .k) ∷ [])
 own c =
     let a = c .before .before .before .before .before .args in
-    lines-of (a .h) (a .words .now) (a .counters .now) (valueLine (a .v) ∷ []) (passed c)
+    lines-of (a .h) (a .words .now) (a .counters .now) (valueLine (a .v) ∷ absentLine (a .h .length) (a .k) ∷ []) (passed c)
 
 -- v is 0 or 1
 fine : (c : tie.After-enum-told) → c .before .before .before .before .before .args .v ≤ 1
 fine c = ltb-false 1 (c .before .before .before .before .before .args .v) (own c .0)
 
+ones-held-requires : tie.Need-ones-held-requires
+ones-held-requires c κs = let z = known c in (z .counters, omega (arith, z .least), omega (arith, z .most))
+
 returns : tie.Need-returns
 returns c =
-    let a = c .before .before .before .before .before .before .args in
-    select-beyond (a .h) (a .words .now) (a .counters .now) (a .v) (a .k) (passed (c .before)) (c .if1 .taken)
-
-ones-held-requires : tie.Need-ones-held-requires
-ones-held-requires c κs = let z = known (c .before) in (z .counters, omega (arith, z .least), omega (arith, z .most))
-
-returns-2 : tie.Need-returns-2
-returns-2 c =
-    let e = c .before .before .before in
+    let e = c .before .before in
     let a = e .before .before .before .before .before .args in
     let total = c .before .ones-held in
-    select-over (a .h) (a .words .now) (a .counters .now) (a .v) (a .k) (total .result) (known e) (fine e) (passed e) (total .ensures .1) (c .if2 .taken)
+    select-over (a .h) (a .words .now) (a .counters .now) (a .v) (a .k) (total .result) (known e) (fine e) (passed e) (total .ensures .1) (c .if1 .taken)
 
 of-value-requires : tie.Need-of-value-requires
 of-value-requires c κs = search needs
 
-returns-3 : tie.Need-returns-3
-returns-3 c =
-    let e = c .before .before .before .before .before in
+returns-2 : tie.Need-returns-2
+returns-2 c =
+    let e = c .before .before .before .before in
     let a = e .before .before .before .before .before .args in
     let total = c .before .before .before .ones-held in
     select-absent (a .h) (a .words .now) (a .counters .now) (a .v) (a .k) (total .result) (known e) (fine e) (passed e) (total .ensures .1)
-    (omega (arith, c .before .of-value .ensures, c .if3 .taken))
+    (omega (arith, c .before .of-value .ensures, c .if2 .taken))
 
 select-position-requires : tie.Need-select-position-requires
 select-position-requires c κs =
-    let e = c .before .before .before .before .before in
+    let e = c .before .before .before .before in
     let z = known e in
     (omega (arith, z .words, z .step), z .counters, omega (arith, z .least), omega (arith, z .most), fine e)
 
-returns-4 : tie.Need-returns-4
-returns-4 c =
+returns-3 : tie.Need-returns-3
+returns-3 c =
     let a = c .before .before .before .before .before .before .args in
-    promise-refused (selectTable (a .h) (length (a .words .now)) (length (a .counters .now)) (a .v)) refused _ _ _
+    promise-refused (selectTable (a .h) (length (a .words .now)) (length (a .counters .now)) (a .v) (a .k)) refused _ _ _
     (c .before .before .before .check-select .result) (c .before .r .given .0 .0) (c .before .before .before .check-select .ensures) (c .before .r .given .1)
 
-returns-5 : tie.Need-returns-5
-returns-5 c =
-    let e = c .before .before .before .before .before .before .before in
+returns-4 : tie.Need-returns-4
+returns-4 c =
+    let e = c .before .before .before .before .before .before in
     let a = e .before .before .before .before .before .args in
     let total = c .before .before .before .before .before .ones-held in
     let place = c .before .select-position in
     select-done (a .h) (a .words .now) (a .counters .now) (a .v) (a .k) (total .result) (known e) (fine e) (passed e) (total .ensures .1) (place .result)
-    (omega (arith, c .before .before .before .of-value .ensures, c .before .before .if3 .left)) (place .ensures .1) (c .if4 .taken)
+    (omega (arith, c .before .before .before .of-value .ensures, c .before .before .if2 .left)) (place .ensures .1) (c .if3 .taken)
 
-returns-6 : tie.Need-returns-6
-returns-6 c =
-    let e = c .before .before .before .before .before .before .before in
+returns-5 : tie.Need-returns-5
+returns-5 c =
+    let e = c .before .before .before .before .before .before in
     let a = e .before .before .before .before .before .args in
     let total = c .before .before .before .before .before .ones-held in
     let place = c .before .select-position in
     select-past (a .h) (a .words .now) (a .counters .now) (a .v) (a .k) (total .result) (known e) (fine e) (passed e) (total .ensures .1) (place .result)
-    (omega (arith, c .before .before .before .of-value .ensures, c .before .before .if3 .left)) (place .ensures .1) (c .if4 .left)
+    (omega (arith, c .before .before .before .of-value .ensures, c .before .before .if2 .left)) (place .ensures .1) (c .if3 .left)
 
 pub select-spec : {M : Type 1} → statement M
 select-spec =
@@ -115,12 +112,11 @@ select-spec =
     check-select-requires
     enum-known-r
     enum-told
-    returns
     ones-held-requires
-    returns-2
+    returns
     of-value-requires
-    returns-3
+    returns-2
     select-position-requires
+    returns-3
     returns-4
-    returns-5
-    returns-6)
+    returns-5)

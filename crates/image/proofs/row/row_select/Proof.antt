@@ -7,7 +7,7 @@ use native.Mathlib.Omega.{arith}
 use lib.ListN.{length}
 use Rattle.words.specs.Strip.{select}
 use Rattle.words.specs.Refusals.{Line, Told, refused, found, toldOf}
-use Rattle.words.specs.Calls.{valueLine}
+use Rattle.words.specs.Calls.{valueLine, absentLine}
 use Rattle.counters.specs.Promises.{Promise, Below}
 use Rattle.image.specs.Rows.{rowBits, Right}
 use Rattle.image.specs.Calls.{rowLength}
@@ -27,13 +27,13 @@ enum-told : tie.Need-enum-told
 enum-told c = search needs
 
 -- the lines after those of the opening, for a row of n bits
-abbrev lines : ℕ → ℕ → List Line
-lines v n = valueLine v ∷ []
+abbrev lines : ℕ → ℕ → ℕ → List Line
+lines v k n = valueLine v ∷ absentLine n k ∷ []
 
 returns : tie.Need-returns
 returns c =
     let a = c .before .before .before .before .args in
-    row-refused-promise (a .image .now) (a .label) _ _ (lines (a .v) (rowLength (a .image .now) (a .label))) (c .before .before .open-row .ensures) (c .enum-told .given .1) _ _ _
+    row-refused-promise (a .image .now) (a .label) _ _ (lines (a .v) (a .k) (rowLength (a .image .now) (a .label))) (c .before .before .open-row .ensures) (c .enum-told .given .1) _ _ _
 
 -- the record at the place that the opening gave
 known : (c : tie.After-known-told) → RecordFacts (c .before .before .before .before .before .args .image .now) (c .before .o .given .0 .0)
@@ -56,7 +56,7 @@ returns-2 c =
     let held =
     row-held (a .image .now) (a .label) _ _ _ _ (c .before .before .before .before .before .before .open-row .ensures) (c .before .before .before .before .o .given .1)
     (c .before .before .record-part .ensures) (c .before .index-at .ensures .0) in
-    row-told held (λ (p : List ℕ) (n : ℕ) (t : Option ℕ). Promise Told t refused (found (select (rowBits p n) (a .v) (a .k))) (Right p n) (Below 15 n) (toldOf (c .part-select .result))) (lines (a .v)) (c .part-select .ensures)
+    row-told held (λ (p : List ℕ) (n : ℕ) (t : Option ℕ). Promise Told t refused (found (select (rowBits p n) (a .v) (a .k))) (Right p n) (Below 15 n) (toldOf (c .part-select .result))) (lines (a .v) (a .k)) (c .part-select .ensures)
 
 pub row-select-spec : {M : Type 1} → statement M
 row-select-spec =
