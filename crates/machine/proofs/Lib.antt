@@ -1,0 +1,13 @@
+pub mod StateLaws
+pub mod StripStepLaws
+pub mod ImageStepLaws
+pub mod TurnLaws
+pub mod ListLaws
+pub mod DemandLaws
+pub mod ScriptLaws
+pub mod ArmLaws
+pub mod LoopLaws
+pub mod OpeningLaws
+pub mod ExecuteLaws
+pub mod AcceptedLaws
+pub mod Examples

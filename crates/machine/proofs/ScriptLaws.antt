@@ -1,0 +1,117 @@
+-- Scripts and lists of calls: every list of calls whose arguments have 64 bits is the decoding of a script of 64-bit numbers. Assumes nothing.
+use mathlib.Core.Path.{_≡_, refl, ap, _∙_}
+use mathlib.Core.List.{List, [], _∷_}
+use Prim.Native.Nat.{ℕ, suc, _/_, _^_, _<_}
+use native.Mathlib.Omega.{arith}
+use lib.Dec.{lit<}
+use lib.ListN.{length}
+use Rattle.machine.specs.Machine.{Call, create, push, flip, fill, truncate, get, rank, select, successor, predecessor, verify, clear, freeze, inspect, rowRank, rowSelect, rowGet}
+use Rattle.machine.specs.Scripts.{decode, encoded, encode}
+
+-- a call's four numbers name it
+decode-call : (k : Call) (l : List ℕ) → decode (encoded k l) ≡ k ∷ decode l
+decode-call (create c) l = refl
+decode-call (push v) l = refl
+decode-call (flip i) l = refl
+decode-call (fill a b v) l = refl
+decode-call (truncate n) l = refl
+decode-call (get i) l = refl
+decode-call (rank v i) l = refl
+decode-call (select v k) l = refl
+decode-call (successor v i) l = refl
+decode-call (predecessor v i) l = refl
+decode-call verify l = refl
+decode-call clear l = refl
+decode-call (freeze label) l = refl
+decode-call inspect l = refl
+decode-call (rowRank label v i) l = refl
+decode-call (rowSelect label v k) l = refl
+decode-call (rowGet label i) l = refl
+
+-- every list of calls is the decoding of its script
+pub decode-encode : (ks : List Call) → decode (encode ks) ≡ ks
+decode-encode [] = refl
+decode-encode (k ∷ ks) = decode-call k (encode ks) ∙ ap (λ (l : List Call). k ∷ l) (decode-encode ks)
+
+-- a script names as many calls as it has whole fours
+pub decode-length : (script : List ℕ) → length (decode script) ≡ length script / 4
+decode-length [] = refl
+decode-length (op ∷ []) = refl
+decode-length (op ∷ x ∷ []) = refl
+decode-length (op ∷ x ∷ y ∷ []) = refl
+decode-length (op ∷ x ∷ y ∷ z ∷ rest) = ap suc (decode-length rest) ∙ omega arith
+
+-- of each element of a list
+pub data Each {A : Type 0} (P : A → Type 0) : List A → Type 0 where
+  none : Each P []
+  more : {x : A} {l : List A} → P x → Each P l → Each P (x ∷ l)
+
+-- a number of 64 bits
+abbrev pub Narrow : ℕ → Type 0
+Narrow x = x < 2 ^ 64
+
+-- a call whose arguments are such
+abbrev pub NarrowCall : Call → Type 0
+NarrowCall (create c) = Narrow c
+NarrowCall (push v) = Narrow v
+NarrowCall (flip i) = Narrow i
+NarrowCall (fill a b v) = Narrow a × Narrow b × Narrow v
+NarrowCall (truncate n) = Narrow n
+NarrowCall (get i) = Narrow i
+NarrowCall (rank v i) = Narrow v × Narrow i
+NarrowCall (select v k) = Narrow v × Narrow k
+NarrowCall (successor v i) = Narrow v × Narrow i
+NarrowCall (predecessor v i) = Narrow v × Narrow i
+NarrowCall verify = Unit
+NarrowCall clear = Unit
+NarrowCall (freeze label) = Narrow label
+NarrowCall inspect = Unit
+NarrowCall (rowRank label v i) = Narrow label × Narrow v × Narrow i
+NarrowCall (rowSelect label v k) = Narrow label × Narrow v × Narrow k
+NarrowCall (rowGet label i) = Narrow label × Narrow i
+
+-- a call of one, two or three arguments, under an opcode
+module _ {l : List ℕ} (rest : Each Narrow l) (op : ℕ) (o : Narrow op) where
+  zero-narrow : Narrow 0
+  zero-narrow = lit< tt
+
+  three : {x y z : ℕ} → Narrow x → Narrow y → Narrow z → Each Narrow (op ∷ x ∷ y ∷ z ∷ l)
+  three a b c = more o (more a (more b (more c rest)))
+
+  two : {x y : ℕ} → Narrow x → Narrow y → Each Narrow (op ∷ x ∷ y ∷ 0 ∷ l)
+  two a b = three a b zero-narrow
+
+  one : {x : ℕ} → Narrow x → Each Narrow (op ∷ x ∷ 0 ∷ 0 ∷ l)
+  one a = three a zero-narrow zero-narrow
+
+  nothing : Each Narrow (op ∷ 0 ∷ 0 ∷ 0 ∷ l)
+  nothing = three zero-narrow zero-narrow zero-narrow
+
+-- its four numbers are such
+encoded-narrow : (k : Call) (l : List ℕ) → NarrowCall k → Each Narrow l → Each Narrow (encoded k l)
+encoded-narrow (create c) l h r = one r 0 (lit< tt) h
+encoded-narrow (push v) l h r = one r 1 (lit< tt) h
+encoded-narrow (flip i) l h r = one r 2 (lit< tt) h
+encoded-narrow (fill a b v) l h r = three r 3 (lit< tt) (h .0) (h .1) (h .2)
+encoded-narrow (truncate n) l h r = one r 4 (lit< tt) h
+encoded-narrow (get i) l h r = one r 5 (lit< tt) h
+encoded-narrow (rank v i) l h r = two r 6 (lit< tt) (h .0) (h .1)
+encoded-narrow (select v k) l h r = two r 7 (lit< tt) (h .0) (h .1)
+encoded-narrow (successor v i) l h r = two r 8 (lit< tt) (h .0) (h .1)
+encoded-narrow (predecessor v i) l h r = two r 9 (lit< tt) (h .0) (h .1)
+encoded-narrow verify l h r = nothing r 10 (lit< tt)
+encoded-narrow clear l h r = nothing r 11 (lit< tt)
+encoded-narrow (freeze label) l h r = one r 12 (lit< tt) h
+encoded-narrow inspect l h r = nothing r 13 (lit< tt)
+encoded-narrow (rowRank label v i) l h r = three r 14 (lit< tt) (h .0) (h .1) (h .2)
+encoded-narrow (rowSelect label v k) l h r = three r 15 (lit< tt) (h .0) (h .1) (h .2)
+encoded-narrow (rowGet label i) l h r = two r 16 (lit< tt) (h .0) (h .1)
+
+-- so calls with arguments of 64 bits have a script of such numbers
+pub encode-narrow : (ks : List Call) → Each NarrowCall ks → Each Narrow (encode ks)
+encode-narrow [] none = none
+encode-narrow (k ∷ ks) (more h t) = encoded-narrow k (encode ks) h (encode-narrow ks t)
+
+-- every list of such calls is the decoding of some script of such numbers
+pub some-script : (ks : List Call) → Each NarrowCall ks → (script : List ℕ) × (Each Narrow script × (decode script ≡ ks))
+some-script ks h = (encode ks, (encode-narrow ks h, decode-encode ks))

@@ -1,0 +1,4 @@
+pub mod Machine
+pub mod Scripts
+pub mod Driver
+pub mod Driving
