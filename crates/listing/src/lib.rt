@@ -1,0 +1,3 @@
+// The rows of an image as text.
+pub mod number;
+pub mod rows;
