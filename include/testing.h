@@ -51,7 +51,8 @@ uint64_t strip_predecessor(size_t capacity, size_t length, const uint64_t *words
 size_t strip_select_in_word(uint64_t x, size_t k);
 
 /* ---- The calls that read a record. They write nothing, and answer the value, or 2^32 plus the refusal's number. On a
- * record that does not fit, strip_rank answers at most i, or 9; strip_select a position below the length, 6 or 9. */
+ * record that does not fit, strip_rank answers at most i, or 9; strip_select a position below the length, 6 or 9; 6
+ * where k is at or past the length, on any record. */
 
 /* count(v, i): how many of the first i bits equal v. Refusals: 1, 2, 3, 8, 4, 9. */
 uint64_t strip_rank(size_t capacity, size_t length, const uint64_t *words, size_t word_count, const uint32_t *counters,
@@ -100,7 +101,8 @@ void strip_truncate(size_t capacity, size_t length, uint64_t *words, size_t word
 
 /* ---- The calls on an image of `size` bytes, and on a row's own part of it with the length n, in bits, held for it. They answer the
  * value, or 2^32 plus the refusal's number. On a wrong row a count is at most i, or 15; a find is a position below the
- * length, 6 or 15; a look reads the bit. On every other row 15 never occurs, whatever the rows beside it hold. */
+ * length, 6 or 15; a look reads the bit. On every other row 15 never occurs, whatever the rows beside it hold. On any
+ * row a find is 6 where k is at or past the length. */
 
 /* clear: writes the header of an empty chain, and no other byte. Value: 16. Refusals: 13. */
 uint64_t image_clear(uint8_t *image, size_t size);
@@ -141,6 +143,31 @@ uint64_t image_opened_rank(const uint8_t *image, size_t size, size_t label, uint
 
 /* Opening a row, then find(v, k) on it. Refusals: 10, 8, 6, 15. */
 uint64_t image_opened_select(const uint8_t *image, size_t size, size_t label, uint64_t v, size_t k);
+
+/* ---- Scripts: lists of calls over one set of lent buffers. A call is four numbers, an opcode and three arguments, 0
+ * where there are fewer; the opcode is taken modulo 17:
+ *    0 lay(capacity)    1 add(v)           2 turn(i)             3 run(a, b, v)   4 cut(n)    5 look(i)
+ *    6 count(v, i)      7 find(v, k)       8 next(v, i)          9 prior(v, i)   10 check    11 clear
+ *   12 freeze(label)   13 inspect         14 row count(label, v, i)
+ *   15 row find(label, v, k)              16 row look(label, i)
+ */
+
+/* The opening lay(capacity) and clear, clear first where clear_first is not 0, then every call of the script, each on what
+ * the one before left. Returns the number of calls run. The answers: refusal of the opening or 0, capacity and length of
+ * the last handle; then for each call refusal or 0, first value, second value, 0 where there is none. Later places stay
+ * as they are. A refused opening puts its number into answers[0], changes nothing else and returns 0. Numbers past the
+ * last whole call are not read. With fewer than 3 + 3 * (script_len / 4) answers lent nothing runs, and 2^64 - 1 is
+ * returned. */
+uint64_t strip_execute(const uint64_t *script, size_t script_len, uint64_t capacity, uint64_t clear_first,
+                       uint64_t *words, size_t words_len, uint32_t *counters, size_t counters_len, uint8_t *image,
+                       size_t image_len, uint64_t *answers, size_t answers_len);
+
+/* One call of a script, on the handle (capacity, length) and any buffers, fitting or not. Writes five numbers to `out`:
+ * refusal or 0, first value, second value, capacity and length of the handle now in use. With fewer than five lent it
+ * does nothing at all. */
+void strip_step(uint64_t op, uint64_t x, uint64_t y, uint64_t z, uint64_t capacity, uint64_t length, uint64_t *words,
+                size_t words_len, uint32_t *counters, size_t counters_len, uint8_t *image, size_t image_len,
+                uint64_t *out, size_t out_len);
 
 #ifdef __cplusplus
 }

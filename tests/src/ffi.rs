@@ -108,4 +108,34 @@ extern "C" {
     pub fn image_opened_get(image: *const u8, size: usize, label: usize, i: usize) -> u64;
     pub fn image_opened_rank(image: *const u8, size: usize, label: usize, v: u64, i: usize) -> u64;
     pub fn image_opened_select(image: *const u8, size: usize, label: usize, v: u64, k: usize) -> u64;
+    pub fn strip_execute(
+        script: *const u64,
+        script_len: usize,
+        capacity: u64,
+        clear_first: u64,
+        words: *mut u64,
+        word_count: usize,
+        counters: *mut u32,
+        counter_count: usize,
+        image: *mut u8,
+        size: usize,
+        answers: *mut u64,
+        room: usize,
+    ) -> u64;
+    pub fn strip_step(
+        op: u64,
+        x: u64,
+        y: u64,
+        z: u64,
+        capacity: u64,
+        length: u64,
+        words: *mut u64,
+        word_count: usize,
+        counters: *mut u32,
+        counter_count: usize,
+        image: *mut u8,
+        size: usize,
+        out: *mut u64,
+        room: usize,
+    );
 }

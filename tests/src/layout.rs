@@ -64,7 +64,12 @@ pub fn image(rows: &[(usize, usize, Vec<bool>)], spare: usize) -> Vec<u8> {
 
 /// The places of a sound chain's records.
 pub fn chain(image: &[u8]) -> Option<Vec<usize>> {
-    if image.len() < 16 || number(image, 4) != 1 || number(image, 8) != 0 || number(image, 12) != 0 {
+    if image.len() < 16
+        || image.len() > 1 << 32
+        || number(image, 4) != 1
+        || number(image, 8) != 0
+        || number(image, 12) != 0
+    {
         return None;
     }
     let mut places: Vec<usize> = Vec::new();
@@ -152,8 +157,13 @@ impl Row {
     }
 }
 
+/// The part of an image that is the record at a place.
+pub fn part(image: &[u8], at: usize) -> &[u8] {
+    &image[at..at + size(number(image, at + 8))]
+}
+
 /// The row of a label: 10, 11, 14.
 pub fn row(image: &[u8], label: usize) -> Result<Row, u64> {
     let at = open(image, label)? as usize;
-    Ok(Row::new(&image[at..at + size(number(image, at + 8))]))
+    Ok(Row::new(part(image, at)))
 }

@@ -1,12 +1,16 @@
 //! The proved calls, to be compared with a plain model of them: those on words here, those on a record in `record`, those
-//! on an image in `image`.
+//! on an image in `image`, and scripts of all of them in `script`.
+pub mod draw;
 pub mod ffi;
 mod guarded;
 pub mod image;
 pub mod layout;
 pub mod model;
+pub mod paper;
 pub mod random;
 pub mod record;
+pub mod script;
+pub mod tally;
 
 use ffi::{strip_get, strip_predecessor, strip_select_in_word, strip_successor};
 

@@ -33,7 +33,7 @@ pub struct Report {
 }
 
 /// What `out` holds before a call.
-const UNTOUCHED: u64 = 0x5bd1_e995_ffff_0000;
+pub const UNTOUCHED: u64 = 0x5bd1_e995_ffff_0000;
 
 /// Words and counters. Each call asserts that it wrote to nothing beside them and the first five numbers of `out`.
 pub struct Record {

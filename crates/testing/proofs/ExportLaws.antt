@@ -7,9 +7,11 @@ use native.Mathlib.Omega.{arith}
 use lib.ListN.{length, set}
 use borrow.Author.Tests.{lt-ltb, le-ltb}
 use Rattle.words.specs.declared.handle.Handle.{Handle}
-use Rattle.words.specs.Refusals.{Told, coded}
+use Rattle.words.specs.Refusals.{Told, coded, CodedAs}
 use Rattle.counters.specs.Promises.{ChangedTold, Outcome, outcome}
-use Rattle.testing.specs.Exports.{CodedAs, five, changedFive, fiveOver, lent, after, reported, Reported}
+use Rattle.machine.specs.Driver.{Stepped, stepped}
+use Rattle.machine.specs.declared.step.Reply.{Reply}
+use Rattle.testing.specs.Exports.{five, changedFive, fiveOver, lent, after, reported, Reported, LentAll, lentAll, StepReported}
 
 -- five stores at the front
 pub set-five : (os : List ℕ) (n x y : ℕ) (h : Handle) → 5 ≤ length os
@@ -48,4 +50,17 @@ some-ran P g h ws cs os vs ds es t e le p w =
     record {
       idle = (λ l. absurd (omega arith));
       ran = (λ l. record { outcome = outcome t vs ds; holds = subst (λ (k : Handle). P k (outcome t vs ds)) e p; same = ap (lent vs ds) w });
+    }
+
+-- one call of a script: too short an `out`
+pub step-idle : (P : Stepped → Type 0) (l : LentAll) → length (l .out) < 5 → StepReported P l l
+step-idle P l h = record { idle = (λ k. refl); ran = (λ k. absurd (omega arith)) }
+
+-- and run, under the handle made of the two numbers
+pub step-ran : (P : Handle → Stepped → Type 0) (g h : Handle) (l : LentAll) (t : Reply) (ws cs im os : List ℕ) → g ≡ h → 5 ≤ length (l .out)
+    → P g (stepped t ws cs im) → os ≡ fiveOver (five (t .refusal) (t .first) (t .second) (t .handle)) (l .out) → StepReported (P h) l (lentAll ws cs im os)
+step-ran P g h l t ws cs im os e le p w =
+    record {
+      idle = (λ k. absurd (omega arith));
+      ran = (λ k. record { stepped = stepped t ws cs im; holds = subst (λ (k : Handle). P k (stepped t ws cs im)) e p; same = ap (lentAll ws cs im) w });
     }

@@ -6,15 +6,9 @@ use mathlib.Core.List.{List, [], _∷_, _++_}
 use lib.ListN.{length, drop}
 use lib.Dec.{ltb}
 use Rattle.words.specs.declared.handle.Handle.{Handle}
-use Rattle.words.specs.Refusals.{Told, coded}
 use Rattle.words.specs.Handles.{handle}
+use Rattle.machine.specs.Driver.{Stepped}
 use Rattle.counters.specs.Promises.{CreatedTold, created, uncreated, ChangedTold, done, kept, Outcome}
-
--- r is the code of something told of which P holds
-pub record CodedAs (P : Told → Type 0) (r : ℕ) : Type 0 where
-  pub told : Told
-  pub holds : P told
-  pub code : r ≡ coded told
 
 -- five numbers: refusal or 0, first value, second value or 0, capacity and length of the handle to go on with
 abbrev pub five : ℕ → ℕ → ℕ → Handle → List ℕ
@@ -63,3 +57,28 @@ pub record Ran (P : Outcome ChangedTold → Type 0) (os : List ℕ) (l : Lent) :
 pub record Reported (P : Outcome ChangedTold → Type 0) (ws cs os : List ℕ) (l : Lent) : Type 0 where
   pub idle : length os < 5 → l ≡ lent ws cs os
   pub ran : 5 ≤ length os → Ran P os l
+
+-- the four lent buffers of a step
+pub record LentAll : Type 0 where
+  pub words : List ℕ
+  pub counters : List ℕ
+  pub image : List ℕ
+  pub out : List ℕ
+
+abbrev pub lentAll : List ℕ → List ℕ → List ℕ → List ℕ → LentAll
+lentAll ws cs im os = record { words = ws; counters = cs; image = im; out = os }
+
+-- a step's five numbers
+abbrev pub stepFive : Stepped → List ℕ
+stepFive y = five (y .reply .refusal) (y .reply .first) (y .reply .second) (y .reply .handle)
+
+-- a step with some outcome of which P holds
+pub record StepRan (P : Stepped → Type 0) (os : List ℕ) (m : LentAll) : Type 0 where
+  pub stepped : Stepped
+  pub holds : P stepped
+  pub same : m ≡ lentAll (stepped .words) (stepped .counters) (stepped .image) (fiveOver (stepFive stepped) os)
+
+-- with fewer than five places in `out` nothing runs
+pub record StepReported (P : Stepped → Type 0) (l m : LentAll) : Type 0 where
+  pub idle : length (l .out) < 5 → m ≡ l
+  pub ran : 5 ≤ length (l .out) → StepRan P (l .out) m

@@ -1,9 +1,8 @@
 // The calls on an image. A refusal comes as 2^32 plus its number.
 ghost use mathlib.Core.Path.{_≡_};
-ghost use Rattle.words.specs.Refusals.{toldOf, coded as codedOf};
+ghost use Rattle.words.specs.Refusals.{toldOf, coded as codedOf, CodedAs};
 ghost use Rattle.words.specs.Handles.{handle as handleOf};
 ghost use Rattle.image.specs.Calls.{clearOutcome, freezeOutcome, openTold, openPart, heldLength, partGetTold, PartRanked, PartSelected, rowGetTold, RowRanked, RowSelected};
-ghost use Rattle.testing.specs.Exports.{CodedAs};
 use image::clear::clear;
 use image::freeze::freeze;
 use image::open::open_row;

@@ -6,7 +6,8 @@ ghost use lib.ListN.{length};
 ghost use Rattle.words.specs.Handles.{handle as handleOf};
 ghost use Rattle.counters.specs.Promises.{createdOf, changedOf};
 ghost use Rattle.counters.specs.Calls.{Ranked, Selected, Verified, createOutcome, Pushed, Flipped, fillOutcome, truncateOutcome};
-ghost use Rattle.testing.specs.Exports.{CodedAs, five, changedFive, createdFive, fiveOver, lent, reported, Reported};
+ghost use Rattle.words.specs.Refusals.{CodedAs};
+ghost use Rattle.testing.specs.Exports.{five, changedFive, createdFive, fiveOver, lent, reported, Reported};
 use counters::answer::Changed;
 use counters::answer::Created;
 use counters::change::create;
@@ -65,7 +66,7 @@ pub extern "C" fn strip_verify(
 }
 
 // Writes the five numbers.
-fn write_five(out: &mut [u64], refusal: u64, x: u64, y: u64, h: Handle)
+pub fn write_five(out: &mut [u64], refusal: u64, x: u64, y: u64, h: Handle)
     requires { ⌜ 5 ≤ length (now out) ⌝ }
     ensures { λ _. ⌜ now (out .exit) ≡ fiveOver (five refusal x y h) (now (out .entry)) ⌝ }
 {

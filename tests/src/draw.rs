@@ -1,0 +1,160 @@
+//! Calls drawn at random, their arguments around what they meet.
+use crate::paper::{number_of, Row};
+use crate::random::Random;
+use crate::script::{Call, CALLS};
+
+const HUGE: [u64; 6] = [1 << 32, (1 << 32) + 1, 1 << 63, u64::MAX - 511, u64::MAX - 1, u64::MAX];
+const BAD_VALUES: [u64; 6] = [2, 3, 1 << 32, (1 << 32) + 1, 1 << 63, u64::MAX];
+const UNITS: [u64; 6] = [8, 64, 512, 4096, 32_768, 2_097_152];
+
+/// What a call meets: the handle's capacity, the strip, and the rows.
+pub struct Scene<'a> {
+    pub capacity: u64,
+    pub strip: &'a [bool],
+    pub rows: &'a [Row],
+}
+
+fn one_of<T: Copy>(random: &mut Random, list: &[T]) -> T {
+    list[random.below(list.len())]
+}
+
+fn below(random: &mut Random, n: u64) -> u64 {
+    random.below(n as usize) as u64
+}
+
+/// A number at most one off another.
+fn near(random: &mut Random, number: u64) -> u64 {
+    number.wrapping_add(below(random, 3)).wrapping_sub(1)
+}
+
+/// 0 or 1, or seldom neither.
+pub fn value(random: &mut Random) -> u64 {
+    if random.below(16) == 0 {
+        one_of(random, &BAD_VALUES)
+    } else {
+        below(random, 2)
+    }
+}
+
+/// A position on a list of bits under a capacity: inside it, beside its end, beside a multiple of a unit, or far away.
+pub fn position(random: &mut Random, capacity: u64, length: u64) -> u64 {
+    match random.below(16) {
+        0 => one_of(random, &HUGE),
+        1 => (1 << 32) + below(random, length + 1),
+        2 => near(random, capacity),
+        3 | 4 => near(random, length),
+        5..=7 => {
+            let unit = one_of(random, &UNITS);
+            let edge = unit * below(random, length / unit + 2);
+            near(random, edge)
+        }
+        8 => below(random, 3),
+        _ => below(random, length + 1),
+    }
+}
+
+/// A k for find(v, k) on bits: below the number of v, beside it, or far away.
+fn index(random: &mut Random, bits: &[bool], v: u64) -> u64 {
+    let number = number_of(bits, v == 1);
+    match random.below(16) {
+        0 => one_of(random, &HUGE),
+        1 => (1 << 32) + below(random, number + 1),
+        2..=4 => near(random, number),
+        5 => near(random, bits.len() as u64),
+        6 => below(random, 3),
+        _ => below(random, number + 1),
+    }
+}
+
+/// A label: of about `share` in 100 that of a row, if there is one, else any from 1 to 64; seldom none, or a row's plus
+/// 2^32.
+fn label(random: &mut Random, rows: &[Row], share: usize) -> u64 {
+    let held = if rows.is_empty() { 3 } else { rows[random.below(rows.len())].0 };
+    match random.below(24) {
+        0 => (1 << 32) + held,
+        1 => one_of(random, &[0, 65, 128 + held, 256 + held]),
+        2 => one_of(random, &[1, 64]),
+        3 => one_of(random, &HUGE),
+        _ if random.below(100) < share => held,
+        _ => 1 + below(random, 64),
+    }
+}
+
+/// The capacity of a lay: mostly another than the scene's, for an accepted lay empties the strip.
+fn capacity(random: &mut Random, own: u64) -> u64 {
+    match random.below(24) {
+        0 => own,
+        1..=3 => own ^ 1,
+        4..=6 => own.wrapping_add(512),
+        7..=9 => own.wrapping_sub(512),
+        10..=12 => own.wrapping_add(1 << 32),
+        13..=15 => one_of(random, &HUGE),
+        16..=18 => one_of(random, &[0, 64, 511, 134_217_728, 134_218_240]),
+        _ => 512 * below(random, 600),
+    }
+}
+
+/// A span for run: short, or between any two positions.
+fn span(random: &mut Random, scene: &Scene) -> (u64, u64) {
+    let length = scene.strip.len() as u64;
+    let a = position(random, scene.capacity, length);
+    match random.below(8) {
+        0 => (a, position(random, scene.capacity, length)),
+        1 => (a, near(random, length)),
+        2 => (a, near(random, a)),
+        _ => (a, a.saturating_add(below(random, 150))),
+    }
+}
+
+/// How many to keep by a cut: mostly nearly all.
+fn kept(random: &mut Random, scene: &Scene) -> u64 {
+    let length = scene.strip.len() as u64;
+    match random.below(8) {
+        0 => position(random, scene.capacity, length),
+        1 => near(random, length),
+        _ => length.saturating_sub(below(random, 40)),
+    }
+}
+
+/// The bits of a label's row.
+fn row<'a>(scene: &Scene<'a>, label: u64) -> &'a [bool] {
+    scene.rows.iter().find(|row| row.0 == label).map_or(&[], |row| &row.1)
+}
+
+/// The arguments of a call; those that it does not take are any.
+fn arguments(random: &mut Random, code: usize, scene: &Scene) -> [u64; 3] {
+    let any = if random.below(2) == 0 { 0 } else { random.number() };
+    let (v, n) = (value(random), scene.strip.len() as u64);
+    match code {
+        0 => [capacity(random, scene.capacity), any, any],
+        1 => [v, any, any],
+        2 | 5 => [position(random, scene.capacity, n), any, any],
+        3 => {
+            let (a, b) = span(random, scene);
+            [a, b, v]
+        }
+        4 => [kept(random, scene), any, any],
+        6 | 8 | 9 => [v, position(random, scene.capacity, n), any],
+        7 => [v, index(random, scene.strip, v), any],
+        12 => [label(random, scene.rows, 20), any, any],
+        14..=16 => {
+            let label = label(random, scene.rows, 80);
+            let bits = row(scene, label);
+            let i = position(random, scene.capacity, bits.len() as u64);
+            match code {
+                14 => [label, v, i],
+                15 => [label, v, index(random, bits, v)],
+                _ => [label, i, any],
+            }
+        }
+        _ => [any; 3],
+    }
+}
+
+/// The call of an opcode; the opcode has a multiple of 17 added at times.
+pub fn call(random: &mut Random, code: usize, scene: &Scene) -> Call {
+    let [x, y, z] = arguments(random, code, scene);
+    let most = (u64::MAX - code as u64) / CALLS as u64;
+    let times = if random.below(4) == 0 { random.number() % (most + 1) } else { 0 };
+    Call { op: code as u64 + CALLS as u64 * times, x, y, z }
+}

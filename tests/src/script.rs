@@ -1,0 +1,102 @@
+//! Calls as numbers, and what is lent to them.
+use crate::ffi::{strip_execute, strip_step};
+use crate::guarded::Guarded;
+use crate::record::UNTOUCHED;
+
+/// The number of calls; an opcode is taken modulo it.
+pub const CALLS: usize = 17;
+
+/// The calls, each at its opcode.
+pub const NAMES: [&str; CALLS] = [
+    "lay",
+    "add",
+    "turn",
+    "run",
+    "cut",
+    "look",
+    "count",
+    "find",
+    "next",
+    "prior",
+    "check",
+    "clear",
+    "freeze",
+    "inspect",
+    "row count",
+    "row find",
+    "row look",
+];
+
+/// An opcode and three arguments, in the scope document's order; a row reading has its label first.
+#[derive(Clone, Copy, Debug)]
+pub struct Call {
+    pub op: u64,
+    pub x: u64,
+    pub y: u64,
+    pub z: u64,
+}
+
+impl Call {
+    /// The opcode from 0 to 16.
+    pub fn code(&self) -> usize {
+        (self.op % CALLS as u64) as usize
+    }
+}
+
+/// Words, counters and an image. Each call asserts that it wrote to nothing beside them and the numbers that it tells.
+pub struct Buffers {
+    words: Guarded<u64>,
+    counters: Guarded<u32>,
+    image: Guarded<u8>,
+}
+
+impl Buffers {
+    pub fn new(words: &[u64], counters: &[u32], image: &[u8]) -> Buffers {
+        Buffers {
+            words: Guarded::new(words, 0xa5a5_a5a5_5a5a_5a5a),
+            counters: Guarded::new(counters, 0x5a5a_a5a5),
+            image: Guarded::new(image, 0xa5),
+        }
+    }
+
+    pub fn words(&self) -> &[u64] {
+        self.words.numbers()
+    }
+
+    pub fn counters(&self) -> &[u32] {
+        self.counters.numbers()
+    }
+
+    pub fn image(&self) -> &[u8] {
+        self.image.numbers()
+    }
+
+    /// Runs a script with `room` numbers for the answers: how many calls were run, and those numbers.
+    pub fn execute(&mut self, script: &[u64], capacity: u64, clear_first: u64, room: usize) -> (u64, Vec<u64>) {
+        let mut lent = Guarded::new(script, UNTOUCHED);
+        let mut answers = Guarded::new(&vec![UNTOUCHED; room], UNTOUCHED);
+        let ((words, nw), (counters, nc), (image, ni)) = (self.words.lend(), self.counters.lend(), self.image.lend());
+        let ((calls, ns), (out, no)) = (lent.lend(), answers.lend());
+        // SAFETY: the pointers are to as many numbers as are named, which live through the call and do not meet; so too below.
+        let run =
+            unsafe { strip_execute(calls, ns, capacity, clear_first, words, nw, counters, nc, image, ni, out, no) };
+        assert!(self.intact() && lent.intact() && answers.intact(), "a script wrote to a guard");
+        assert!(lent.numbers() == script, "the script changed");
+        (run, answers.numbers().to_vec())
+    }
+
+    /// Runs one call under a handle with `room` numbers for what it tells: those numbers.
+    pub fn step(&mut self, call: Call, (capacity, length): (u64, u64), room: usize) -> Vec<u64> {
+        let mut told = Guarded::new(&vec![UNTOUCHED; room], UNTOUCHED);
+        let ((words, nw), (counters, nc), (image, ni)) = (self.words.lend(), self.counters.lend(), self.image.lend());
+        let (out, no) = told.lend();
+        let Call { op, x, y, z } = call;
+        unsafe { strip_step(op, x, y, z, capacity, length, words, nw, counters, nc, image, ni, out, no) };
+        assert!(self.intact() && told.intact(), "{call:?} wrote to a guard");
+        told.numbers().to_vec()
+    }
+
+    fn intact(&self) -> bool {
+        self.words.intact() && self.counters.intact() && self.image.intact()
+    }
+}
