@@ -264,6 +264,11 @@ pub links-some : {s : List ℕ} {a : ℕ} {met rs : List ℕ} → Links s a met 
 links-some links-end j l = absurd (omega arith)
 links-some (links-more n f u k) j l = n
 
+-- at 0 there is none
+pub links-none : {s : List ℕ} {a : ℕ} {met rs : List ℕ} → Links s a met rs → a ≡ 0 → rs ≡ []
+links-none links-end z = refl
+links-none (links-more n f u k) z = absurd (n z)
+
 -- a record ends before the next one
 links-ahead : {s : List ℕ} {a : ℕ} {met bs : List ℕ} → RecordFacts s a → Links s (unitBytes * nextAt s a) met bs → (j : ℕ) → j < length bs
     → endAt s a ≤ unitBytes * nextAt s a

@@ -105,10 +105,7 @@ unfolding linkOf
 links-link {bs = []} (links-more n f u k) = omega arith
 links-link {s} {a} {bs = c ∷ cs} (links-more n f u k) =
     let z : unitBytes * nextAt s a ≡ c = links-first k in
-    omega (arith, links-link k, f .ahead (λ y. absurd (first-some k (omega (arith, z)))))
-  where
-    first-some : {a : ℕ} {met : List ℕ} {b : ℕ} {bs : List ℕ} → Links s a met (b ∷ bs) → a ≡ 0 → ⊥
-    first-some (links-more n f u k) = n
+    omega (arith, links-link k, f .ahead (λ y. links-some k 0 (omega arith) (omega arith)))
 
 -- the new record alone
 links-new : {s t : List ℕ} {link end label : ℕ} → Grown s t link end label → (met : List ℕ) → among label met ≡ false → (a : ℕ) → a ≡ end

@@ -15,7 +15,7 @@ use Rattle.image.specs.Rows.{partAt, Right, rightPart, RightAt, Obeys, H
 use Rattle.image.specs.Written.{Labelled, written}
 use Rattle.image.specs.Calls.{isSome, recordsIn, recordsOf, allRight, inspectTold, goodPart}
 use Rattle.image.proofs.RightLaws.{right-test, test-right}
-use Rattle.image.proofs.ChainLaws.{RecordFacts, Links, links-end, links-more, links-some, chain-links, some-in}
+use Rattle.image.proofs.ChainLaws.{RecordFacts, Links, links-end, links-more, links-none, links-some, chain-links, some-in}
 use Rattle.image.proofs.RowLaws.{part-length, part-good}
 use Rattle.image.proofs.WrittenLaws.{Good, places, length-places, written-chain, written-records, written-row}
 
@@ -166,14 +166,9 @@ record Ahead (s : List ℕ) (at : ℕ) (met rest : List ℕ) : Type 0 where
   is : rest ≡ at ∷ after
   links : Links s (unitBytes * nextAt s at) (labelAt s at ∷ met) after
 
-links-first : {s : List ℕ} {at : ℕ} {met rest : List ℕ} → Links s at met rest → (at ≡ 0 → ⊥) → Ahead s at met rest
-links-first links-end n = absurd (n refl)
-links-first (links-more {a} {met} {bs} m f u k) n = record { facts = f; after = bs; is = refl; links = k }
-
--- or one that has ended
-links-none : {s : List ℕ} {at : ℕ} {met rest : List ℕ} → Links s at met rest → at ≡ 0 → rest ≡ []
-links-none links-end z = refl
-links-none (links-more m f u k) z = absurd (m z)
+links-record : {s : List ℕ} {at : ℕ} {met rest : List ℕ} → Links s at met rest → (at ≡ 0 → ⊥) → Ahead s at met rest
+links-record links-end n = absurd (n refl)
+links-record (links-more {a} {met} {bs} m f u k) n = record { facts = f; after = bs; is = refl; links = k }
 
 -- each record takes a unit of the image
 links-few : {s : List ℕ} {at : ℕ} {met rest : List ℕ} → Links s at met rest → at + 16 * length rest ≤ length s
@@ -209,7 +204,7 @@ inspected-none s h =
 -- the record that it stands at, and the count with this one
 module _ {s : List ℕ} {at count : ℕ} (w : Inspected s at count) (n : at ≡ 0 → ⊥) where
   abbrev first : Ahead s at (w .met) (w .rest)
-  first = links-first (w .links) n
+  first = links-record (w .links) n
 
   pub inspected-record : RecordFacts s at
   inspected-record = first .facts

@@ -16,7 +16,7 @@ use Rattle.image.specs.Layout.{unitBytes, mostLabel, sizeOf}
 use Rattle.image.specs.Chain.{nextAt, labelAt, lengthAt, onesAt, among, chainOf}
 use Rattle.image.specs.Rows.{partAt, rowBits, RightAt, Obeys}
 use Rattle.image.specs.Calls.{recordsIn, recordsOf}
-use Rattle.image.proofs.ChainLaws.{RecordFacts, Links, links-end, links-more, chain-links, chain-facts}
+use Rattle.image.proofs.ChainLaws.{RecordFacts, Links, links-end, links-more, links-none, chain-links, chain-facts}
 use Rattle.image.proofs.NumberLaws.{num-taken}
 use Rattle.image.proofs.PartLaws.{row-length}
 use Rattle.image.proofs.RightLaws.{right-facts}
@@ -174,11 +174,6 @@ turn-at {s} past o (links-more {a} {met} {bs} m f u k) n e p =
 pub walk-turn : {s out₀ out : List ℕ} {at end : ℕ} → Obeys s → Walk s out₀ out at end → (at ≡ 0 → ⊥) → Turn s out₀ out at end
 walk-turn o w n = turn-at (w .past) o (w .links) n (w .whole) (w .put)
 
--- where it ends, nothing is left
-rest-none : {s : List ℕ} {at : ℕ} {met rest : List ℕ} → Links s at met rest → at ≡ 0 → rest ≡ []
-rest-none links-end z = refl
-rest-none (links-more m f u k) z = absurd (m z)
-
 pub walk-done : {s out₀ out : List ℕ} {at end : ℕ} → Walk s out₀ out at end → at ≡ 0 → Put out₀ 0 (rowsText s (recordsOf s)) out end
 walk-done {s} w z =
-    put-as _ (ap (rowsText s) (sym (append-nil (w .past)) ∙ ap (λ (l : List ℕ). w .past ++ l) (sym (rest-none (w .links) z)) ∙ w .whole)) (w .put)
+    put-as _ (ap (rowsText s) (sym (append-nil (w .past)) ∙ ap (λ (l : List ℕ). w .past ++ l) (sym (links-none (w .links) z)) ∙ w .whole)) (w .put)
