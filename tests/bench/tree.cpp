@@ -1,7 +1,7 @@
 // The same tree of counters written by hand in C++, for comparison. Nothing is checked: the caller lends a fitting
 // record, and positions and k that are there.
-#include <cstddef>
-#include <cstdint>
+#include "word.hpp"
+
 #include <cstring>
 
 namespace {
@@ -9,41 +9,7 @@ namespace {
 using std::size_t;
 using std::uint32_t;
 using std::uint64_t;
-
-constexpr uint64_t lanes = 0x0101010101010101;
-constexpr uint64_t tops = 0x8080808080808080;
-
-// The position of the k-th one of the byte b at 8 * b + k, or 8.
-struct Table {
-    std::uint8_t at[2048];
-    constexpr Table() : at{}
-    {
-        for (unsigned b = 0; b < 256; b++) {
-            unsigned k = 0;
-            for (unsigned p = 0; p < 8; p++)
-                if (b >> p & 1) at[8 * b + k++] = p;
-            while (k < 8) at[8 * b + k++] = 8;
-        }
-    }
-};
-constexpr Table table;
-
-uint64_t byte_counts(uint64_t x)
-{
-    x -= x >> 1 & 0x5555555555555555;
-    x = (x & 0x3333333333333333) + (x >> 2 & 0x3333333333333333);
-    return (x + (x >> 4)) & 0x0f0f0f0f0f0f0f0f;
-}
-
-size_t ones(uint64_t x) { return byte_counts(x) * lanes >> 56; }
-
-size_t select_in_word(uint64_t x, size_t k)
-{
-    uint64_t sums = byte_counts(x) * lanes;
-    uint64_t above = (((k * lanes | tops) - sums) & tops) ^ tops;
-    size_t at = __builtin_ctzll(above) - 7;
-    return at + table.at[8 * (x >> at & 255) + (k - (sums << 8 >> at & 255))];
-}
+using word::ones;
 
 // The levels over a capacity: their number, and where each starts; level 0 is the lowest.
 struct Shape {
@@ -153,10 +119,25 @@ size_t tree_select(size_t capacity, const uint64_t *words, const uint32_t *count
     for (size_t j = 8 * index;; j++) {
         uint64_t x = v == 1 ? words[j] : ~words[j];
         size_t n = ones(x);
-        if (k < n) return 64 * j + select_in_word(x, k);
+        if (k < n) return 64 * j + word::select(x, k);
         k -= n;
     }
 }
+
+// next(v, i), i below the length, a multiple of 64; the length where there is none
+size_t tree_successor(size_t length, const uint64_t *words, uint64_t v, size_t i)
+{
+    size_t j = i / 64;
+    uint64_t x = (words[j] ^ (v - 1)) >> i % 64 << i % 64;
+    while (x == 0) {
+        if (++j == length / 64) return length;
+        x = words[j] ^ (v - 1);
+    }
+    return 64 * j + __builtin_ctzll(x);
+}
+
+// select in a word that has more than k ones
+size_t tree_select_in_word(uint64_t x, size_t k) { return word::select(x, k); }
 
 // turn(p): the number of counters changed
 size_t tree_flip(size_t capacity, uint64_t *words, uint32_t *counters, size_t p)

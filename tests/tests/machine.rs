@@ -208,17 +208,21 @@ fn adds(random: &mut Random, capacity: usize) -> usize {
 
 // ---- lists
 
+/// A list of up to 7,500 calls and the adds before them, under a small capacity.
+fn small_list(random: &mut Random, tally: &mut Tally) {
+    let capacity = 512 * (1 + random.below(12));
+    let most = [40, 1500, 12_000, 80_000][random.below(4)];
+    let bytes = 16 + random.below(most);
+    let list = List::fitting(random, capacity, bytes);
+    let plan: Vec<_> = (0..1 + random.below(3)).map(|_| (adds(random, capacity), random.below(2500))).collect();
+    rounds(random, list, &plan, tally);
+}
+
 #[test]
 fn lists_at_one_level() {
     let (mut random, mut tally) = (Random::new(101), Tally::default());
     for _ in 0..1500 {
-        let capacity = 512 * (1 + random.below(12));
-        let most = [40, 1500, 12_000, 80_000][random.below(4)];
-        let bytes = 16 + random.below(most);
-        let list = List::fitting(&mut random, capacity, bytes);
-        let plan: Vec<_> =
-            (0..1 + random.below(3)).map(|_| (adds(&mut random, capacity), random.below(2500))).collect();
-        rounds(&mut random, list, &plan, &mut tally);
+        small_list(&mut random, &mut tally);
     }
     for _ in 0..20 {
         let capacity = 512 * [16, 60, 63, 64][random.below(4)];
@@ -361,6 +365,47 @@ fn the_largest_image() {
     assert_eq!((calls, word), (3, 1));
     assert_eq!(answers, [0, 512, 1, 0, 0, 15, 0, 1, 0, 0, 1, 0]);
     assert!(bytes[..560] == layout::image(&[(0, 3, vec![true])], 0) && bytes[560..].iter().all(|b| *b == 0));
+}
+
+// ---- the long run, not part of the gate: cargo test --release --test machine -- --ignored
+
+/// A number of the environment, or the one that stands for it.
+fn setting(name: &str, usual: u64) -> u64 {
+    std::env::var(name).map_or(usual, |text| text.parse().unwrap())
+}
+
+/// LISTS lists of few calls, each one call of the driver; some with an opening that is refused.
+#[test]
+#[ignore = "minutes; docs/ROBUSTNESS.md"]
+fn many_short_lists() {
+    let (mut random, mut tally) = (Random::new(setting("SEED", 108)), Tally::default());
+    for _ in 0..setting("LISTS", 10_000_000) {
+        let capacity = 512 * (1 + random.below(2));
+        let most = [1, 40, 600, 1200][random.below(4)];
+        let bytes = 16 + random.below(most);
+        if random.below(32) == 0 {
+            let sizes = [capacity / 64 + random.below(2), 71 + random.below(2), bytes - random.below(17)];
+            let clear_first = random.below(2) as u64;
+            short_list(&mut random, capacity as u64, clear_first, sizes).compare(0);
+            continue;
+        }
+        let list = List::fitting(&mut random, capacity, bytes);
+        let first = if random.below(64) == 0 { capacity + random.below(3) } else { random.below(24) };
+        let calls = random.below(16);
+        rounds(&mut random, list, &[(first, calls)], &mut tally);
+    }
+    finish(&tally, "short");
+}
+
+/// LONG_LISTS lists of many calls.
+#[test]
+#[ignore = "minutes; docs/ROBUSTNESS.md"]
+fn many_long_lists() {
+    let (mut random, mut tally) = (Random::new(setting("SEED", 109)), Tally::default());
+    for _ in 0..setting("LONG_LISTS", 6000) {
+        small_list(&mut random, &mut tally);
+    }
+    finish(&tally, "long");
 }
 
 // ---- examples, with their answers worked out by hand

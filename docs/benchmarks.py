@@ -1,0 +1,330 @@
+#!/usr/bin/env -S python3 -B
+"""Fills the tables of BENCHMARKS.md and draws its plots, from benchmarks.tsv, which tests/bench/run writes.
+
+A table stands between the lines `<!-- table NAME -->` and `<!-- end -->`.
+"""
+
+import math
+import re
+from pathlib import Path
+
+from drawings import WIDTH, line, number, save, text
+
+HERE = Path(__file__).resolve().parent
+POWERS = ("20", "24", "27")
+SHARES = ("1/64", "32/64", "63/64")
+CALLS = (
+    "count", "find 1", "find 0", "turn", "add", "next", "run", "check",
+    "freeze", "inspect", "row count", "row find",
+)  # fmt: skip
+COLUMNS = ("library", "C++", "scan", "scan, popcnt", "sdsl", "CRoaring")
+PAIR, NOISE = "library / C++", "C++ again / C++"
+# What callgrind counted under these names.
+FUNCTIONS = {
+    "count": ("strip_rank", "tree_rank"),
+    "find 1": ("strip_select", "tree_select"),
+    "turn": ("strip_flip", "tree_flip"),
+    "add": ("strip_push", "tree_push"),
+    "next": ("strip_successor", "tree_successor"),
+    "run": ("strip_fill", "tree_fill"),
+    "check": ("strip_verify", "tree_verify"),
+    "freeze": ("image_freeze", "row_freeze"),
+    "inspect": ("strip_inspect", "row_inspect"),
+    "row count": ("image_row_rank", "row_rank"),
+    "row find": ("image_row_select", "row_select"),
+}
+
+
+class Results:
+    def __init__(self):
+        self.lines = [row.split("\t") for row in (HERE / "benchmarks.tsv").read_text(encoding="utf-8").splitlines()]
+
+    def kind(self, name):
+        return [row[1:] for row in self.lines if row[0] == name]
+
+    def three(self, kind, *key):
+        """Lower quartile, median and upper quartile, or nothing."""
+        for row in self.kind(kind):
+            if tuple(row[:4]) == key:
+                return [float(x) for x in row[4:7]]
+        return None
+
+    def time(self, power, share, call, column):
+        found = self.three("time", power, share, call, column)
+        return found and found[1]
+
+    def instructions(self, power, name):
+        for row in self.kind("instructions"):
+            if row[:2] == [power, name]:
+                return float(row[2]), float(row[3])
+        return None
+
+
+def table(head, rows):
+    out = ["| " + " | ".join(head) + " |", "|" + "---|" * len(head)]
+    return out + ["| " + " | ".join(str(cell) for cell in row) + " |" for row in rows]
+
+
+def duration(ns):
+    """A time, in ns below 10 µs."""
+    if ns is None:
+        return ""
+    if ns < 9995:
+        return f"{ns:.1f}" if ns < 999.5 else f"{ns:,.0f}"
+    return f"{ns / 1000:,.1f} µs"
+
+
+def spread(three):
+    return "" if three is None else f"{three[1]:.2f} ({three[0]:.2f}–{three[2]:.2f})"
+
+
+def calls_table(of, power):
+    rows = []
+    for call in CALLS:
+        for share in SHARES:
+            key = power, share, call
+            figures = [duration(of.time(*key, column)) for column in COLUMNS]
+            ratios = [spread(of.three("ratio", *key, pair)) for pair in (PAIR, NOISE)]
+            rows.append([call, share, *figures[:2], *ratios, *figures[2:]])
+    head = ["call", "ones", "library", "C++", "library / C++", "C++ / C++", *COLUMNS[2:]]
+    return table(head, rows)
+
+
+def cells():
+    return [(power, share) for power in POWERS for share in SHARES]
+
+
+def within(of, kind, power, share, call):
+    """Whether the library is no slower than the C++ version, but for what that version differs from itself."""
+    ratio, noise = (of.three(kind, power, share, call, pair) for pair in (PAIR, NOISE))
+    return ratio[1] <= max(1, noise[2])
+
+
+def verdict(met):
+    return "met" if met else "missed"
+
+
+def aims_table(of):
+    rows = []
+    for call in ("count", "find 1", "find 0", "turn", "add", "run"):
+        for level, kind in (("-O3", "ratio"), ("-O2", "ratio-O2")):
+            inside = [cell for cell in cells() if within(of, kind, *cell, call)]
+            ratios = [of.three(kind, *cell, call, PAIR)[1] for cell in cells()]
+            figure = f"ratio {min(ratios):.2f} to {max(ratios):.2f}; no slower in {len(inside)} of 9 cells"
+            rows.append([f"{call}: no slower than the C++ version at {level}", figure, verdict(len(inside) == 9)])
+    for call in ("count", "find 1", "turn", "turn by flip_inplace"):
+        mine = call.removesuffix(" by flip_inplace")
+        for power in POWERS:
+            pairs = [(of.time(power, s, call, "CRoaring"), of.time(power, s, mine, "library")) for s in SHARES]
+            if None in pairs[0]:
+                continue
+            times = [a / b for a, b in pairs]
+            figure = ", ".join(f"{x:.1f}" for x in times) + " times"
+            rows.append([f"{call} at 2^{power}: 10 times CRoaring's speed", figure, verdict(min(times) >= 10)])
+    for call in ("find 1", "find 0"):
+        for column in ("scan", "scan, popcnt"):
+            parts = [of.time("24", s, call, column) / of.time("24", s, call, "library") for s in SHARES]
+            figure = ", ".join(f"1/{x:.0f}" for x in parts)
+            rows.append([f"{call} at 2^24: 1/200 of the {column}", figure, verdict(min(parts) >= 200)])
+    speeds = [of.time("24", s, "freeze", "memcpy") / of.time("24", s, "freeze", "library") for s in SHARES]
+    figure = ", ".join(f"{x:.2f}" for x in speeds)
+    rows.append(["freeze at 2^24: half of memcpy's speed", figure, verdict(min(speeds) >= 0.5)])
+    return table(["aim", "figures (of several, by ones 1/64, 32/64, 63/64)", ""], rows)
+
+
+def freeze_table(of):
+    rows = []
+    for power, share in cells():
+        times = [of.time(power, share, "freeze", column) for column in ("library", "C++", "memcpy")]
+        speed = (1 << int(power)) / 8 / times[0]
+        rows.append([f"2^{power}", share, *map(duration, times), f"{times[2] / times[0]:.2f}", f"{speed:.1f}"])
+    return table(["bits", "ones", "library", "C++", "memcpy", "memcpy / library", "library, GB/s"], rows)
+
+
+def alone_table(of):
+    rows = []
+    granted = {(row[0], row[2]): int(row[3]) for row in of.kind("bytes")}
+    for power in POWERS:
+        for call in ("count", "find 1", "turn"):
+            for note in ("", ", alone", ", alone, waiting", ", alone, 2 MiB pages"):
+                key = power, "32/64", call + note
+                times = [duration(of.time(*key, column)) for column in COLUMNS[:2]]
+                ratios = [spread(of.three("ratio", *key, pair)) for pair in (PAIR, NOISE)]
+                bytes_ = granted.get((power, "in 2 MiB pages" + note))
+                shown = "" if bytes_ is None else f"{bytes_ / (1 << 20):.0f} MiB"
+                rows.append([f"2^{power}", call, note.removeprefix(", ") or "among all", *times, *ratios, shown])
+    return table(["bits", "call", "", "library", "C++", "library / C++", "C++ / C++", "in 2 MiB pages"], rows)
+
+
+def flips_table(of):
+    rows = []
+    for power, share in cells():
+        names = (("turn", "library"), ("turn", "CRoaring"), ("turn by flip_inplace", "CRoaring"))
+        times = [of.time(power, share, *name) for name in names]
+        rows.append([f"2^{power}", share, *map(duration, times)])
+    return table(["bits", "ones", "library", "CRoaring, add or remove", "CRoaring, flip_inplace"], rows)
+
+
+def instructions_table(of):
+    rows = []
+    for call, names in FUNCTIONS.items():
+        row = [call]
+        for power in ("20", "24"):
+            pair = [of.instructions(power, name) for name in names]
+            if None in pair:
+                continue
+            row += [f"{x[0]:,.0f}" for x in pair] + [f"{pair[0][0] / pair[1][0]:.2f}"] + [f"{x[1]:,.1f}" for x in pair]
+        rows.append(row)
+    head = ["library", "C++", "ratio", "library, mispredicted", "C++, mispredicted"]
+    return table(["call"] + [f"2^{power}: {x}" for power in (20, 24) for x in head], rows)
+
+
+def counter_bytes(bits):
+    blocks = bits // 512
+    height = next(h for h in (1, 2, 3) if 64**h >= blocks)
+    return 4 * 72 * sum(-(-blocks // 64**t) for t in range(1, height + 1))
+
+
+def memory_table(of):
+    rows = []
+    for power in POWERS:
+        bits = 1 << int(power)
+
+        def percent(bytes_):
+            return f"{100 * bytes_ / (bits // 8):.3f} %"
+
+        measured = {(row[1], row[2]): int(row[3]) for row in of.kind("bytes") if row[0] == power}
+        row = [f"2^{power}", f"{bits // 8:,}", f"{counter_bytes(bits):,}", percent(counter_bytes(bits))]
+        row += [f"{bits // 256 + 16:,}", percent(bits // 256 + 16)]
+        for what in ("sdsl rank", "sdsl select"):
+            found = [measured.get((share, what)) for share in SHARES]
+            row.append("" if None in found else ", ".join(percent(x).replace(" %", "") for x in found) + " %")
+        found = [measured.get((share, "CRoaring")) for share in SHARES]
+        row.append("" if None in found else ", ".join(f"{100 * x / (bits // 8):.0f}" for x in found) + " %")
+        rows.append(row)
+    head = ["bits", "words, bytes", "counters, bytes", "over words", "head and entries, bytes", "over bits"]
+    return table(head + ["sdsl rank", "sdsl select, both values", "CRoaring, whole"], rows)
+
+
+def stack_table(of):
+    rows = []
+    for archive, name, bytes_, chain, leaves in sorted(of.kind("stack"), key=lambda row: -int(row[2])):
+        rows.append([f"`{name}`", archive, f"{int(bytes_):,}", chain, leaves])
+    return table(["call", "library", "bytes", "its chain, with the bytes of each", "calls outside"], rows)
+
+
+def size_table(of):
+    return table(["library", "part", "bytes"], [[a, part, f"{int(x):,}"] for a, part, x in of.kind("size")])
+
+
+def word_table(of):
+    times = [of.time("6", "32/64", "word select", column) for column in COLUMNS[:2]]
+    return table(["library", "C++", "ratio"], [[*map(duration, times), f"{times[0] / times[1]:.2f}"]])
+
+
+def machine_table(of):
+    return table(["", ""], of.kind("machine"))
+
+
+# ---- plots: the marks differ in shape, so that no colour is needed
+
+
+def mark(shape, x, y, r=5):
+    if shape in ("dot", "ring"):
+        fill = "black" if shape == "dot" else "white"
+        return f'<circle cx="{number(x)}" cy="{number(y)}" r="{r}" fill="{fill}" stroke="black"/>'
+    corners = {
+        "square": ((-1, -1), (1, -1), (1, 1), (-1, 1)),
+        "triangle": ((0, -1.2), (1.1, 0.9), (-1.1, 0.9)),
+        "diamond": ((0, -1.3), (1.3, 0), (0, 1.3), (-1.3, 0)),
+    }[shape]
+    points = " ".join(f"{number(x + r * dx)},{number(y + r * dy)}" for dx, dy in corners)
+    fill = "black" if shape == "triangle" else "white"
+    return f'<polygon points="{points}" fill="{fill}" stroke="black"/>'
+
+
+def legend(parts, names, y):
+    x = 140
+    for shape, name in names:
+        parts.append(mark(shape, x, y - 5))
+        parts.append(text(x + 12, y, name, "start"))
+        x += 50 + 9 * len(name)
+
+
+def ratios_plot(of):
+    shapes = (("ring", "20"), ("square", "24"), ("triangle", "27"))
+    left, right, top, step = 140, WIDTH - 24, 70, 40
+    high = max(of.three("ratio", p, "32/64", call, PAIR)[2] for p in POWERS for call in CALLS)
+    high = max(1.5, math.ceil(10 * high) / 10)
+    bottom = top + step * len(CALLS)
+
+    def at(ratio):
+        return left + (right - left) * ratio / high
+
+    parts = [text(16, 24, "Time of the library over that of the C++ version, half ones; left of 1 is faster", "start", 15)]
+    legend(parts, [(shape, f"2^{power} bits") for shape, power in shapes], 50)
+    for tick in (t / 4 for t in range(0, int(high * 4) + 1, 2 if high > 2.5 else 1)):
+        dash = "" if tick == 1 else ' stroke-dasharray="1 4"'
+        parts.append(line(at(tick), top - 8, at(tick), bottom, dash))
+        parts.append(text(at(tick), bottom + 18, number(tick)))
+    for row, call in enumerate(CALLS):
+        y = top + step * row + 8
+        parts.append(text(left - 10, y + 12, call, "end"))
+        for place, (shape, power) in enumerate(shapes):
+            low, middle, upper = of.three("ratio", power, "32/64", call, PAIR)
+            parts.append(line(at(low), y + 10 * place - 2, at(min(upper, high)), y + 10 * place - 2))
+            parts.append(mark(shape, at(middle), y + 10 * place - 2, 4))
+    parts.append(text(16, bottom + 40, "Marks are medians over the rounds, lines go from the lower to the upper quartile.", "start"))
+    save("bench-ratios.svg", "Library over C++, by call and size", bottom + 54, parts)
+
+
+def times_plot(of):
+    shapes = (("dot", "library"), ("ring", "C++"), ("diamond", "sdsl"), ("triangle", "CRoaring"), ("square", "scan"))
+    calls = ("count", "find 1", "turn")
+    left, right, top, step = 140, WIDTH - 24, 70, 34
+    bottom = top + step * len(calls) * len(POWERS)
+
+    def at(ns):
+        return left + (right - left) * math.log10(ns) / 7
+
+    parts = [text(16, 24, "Time of a call, half ones; each dotted line is ten times the one before", "start", 15)]
+    legend(parts, shapes, 50)
+    for tick, name in enumerate(("1 ns", "10 ns", "100 ns", "1 µs", "10 µs", "100 µs", "1 ms", "10 ms")):
+        x = at(10**tick)
+        parts.append(line(x, top - 8, x, bottom, ' stroke-dasharray="1 4"'))
+        parts.append(text(x, bottom + 18, name, "end" if tick == 7 else "middle"))
+    for row, (call, power) in enumerate((call, power) for call in calls for power in POWERS):
+        y = top + step * row + step / 2 - 4
+        parts.append(text(left - 10, y + 5, f"{call}, 2^{power}", "end"))
+        if row % len(POWERS) == 0 and row:
+            parts.append(line(16, y - step / 2, right, y - step / 2))
+        for shape, column in reversed(shapes):
+            ns = of.time(power, "32/64", call, column)
+            if ns:
+                parts.append(mark(shape, at(max(ns, 1)), y))
+    save("bench-times.svg", "Times of count, find and turn beside other libraries", bottom + 32, parts)
+
+
+def main():
+    of = Results()
+    tables = {
+        "machine": machine_table, "aims": aims_table, "freeze": freeze_table, "alone": alone_table,
+        "flips": flips_table, "instructions": instructions_table, "memory": memory_table, "stack": stack_table,
+        "size": size_table, "word": word_table,
+    }  # fmt: skip
+    made = {name: make(of) for name, make in tables.items()}
+    made |= {f"2^{power}": calls_table(of, power) for power in POWERS}
+
+    def fill(found):
+        return "\n".join([found[1], "", *made[found[2]], "", "<!-- end -->"])
+
+    path = HERE / "BENCHMARKS.md"
+    words = path.read_text(encoding="utf-8")
+    words = re.sub(r"(<!-- table (\S+) -->)\n.*?<!-- end -->", fill, words, flags=re.S)
+    path.write_text(words, encoding="utf-8", newline="\n")
+    ratios_plot(of)
+    times_plot(of)
+
+
+if __name__ == "__main__":
+    main()

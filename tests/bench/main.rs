@@ -1,0 +1,476 @@
+//! Times the calls on full strips and on a frozen row at 2^20, 2^24 and 2^27 bits and three densities of ones: the
+//! proved library; the same by hand in C++ (tree.cpp, row.cpp), twice, to know the noise; a plain scan; sdsl-lite and
+//! CRoaring where they are installed; and memcpy beside freeze. All stand in one run, in alternating rounds. Each
+//! measurement asks for fresh random places. Prints lines of tab-separated fields:
+//!   time   power  density  call  column  lower quartile, median, upper quartile, in ns a call
+//!   ratio  power  density  call  columns  the same, over the rounds
+//!   bytes  power  density  what  bytes
+//! `main ROUNDS POWER ..` takes other rounds and sizes. `main calls POWER COUNT` only makes COUNT calls of each kind, of
+//! the library and by hand, to be counted from outside.
+#[allow(dead_code)]
+#[path = "../src/ffi.rs"]
+mod ffi;
+#[allow(dead_code)]
+#[path = "../src/random.rs"]
+mod random;
+
+mod other;
+mod record;
+mod row;
+mod scan;
+
+use other::{Roaring, Sdsl};
+use random::Random;
+use record::Record;
+use row::Row;
+use std::hint::black_box;
+use std::time::Instant;
+
+extern "C" {
+    fn tree_select_in_word(x: u64, k: usize) -> usize;
+}
+
+#[derive(Clone, Copy, PartialEq)]
+enum Call {
+    Count,
+    Find(u64),
+    Turn,
+    Flip,
+    Add,
+    Next,
+    Run,
+    Check,
+    Freeze,
+    Inspect,
+    RowCount,
+    RowFind,
+}
+use Call::*;
+
+const CALLS: [(Call, &str); 13] = [
+    (Count, "count"),
+    (Find(1), "find 1"),
+    (Find(0), "find 0"),
+    (Turn, "turn"),
+    (Flip, "turn by flip_inplace"),
+    (Add, "add"),
+    (Next, "next"),
+    (Run, "run"),
+    (Check, "check"),
+    (Freeze, "freeze"),
+    (Inspect, "inspect"),
+    (RowCount, "row count"),
+    (RowFind, "row find"),
+];
+
+#[derive(Clone, Copy, PartialEq)]
+enum Column {
+    Library,
+    Hand,
+    Again,
+    Popcnt,
+    Scan,
+    Sdsl,
+    Roaring,
+    Memcpy,
+}
+
+const COLUMNS: [(Column, &str); 8] = [
+    (Column::Library, "library"),
+    (Column::Hand, "C++"),
+    (Column::Again, "C++ again"),
+    (Column::Popcnt, "scan, popcnt"),
+    (Column::Scan, "scan"),
+    (Column::Sdsl, "sdsl"),
+    (Column::Roaring, "CRoaring"),
+    (Column::Memcpy, "memcpy"),
+];
+
+/// How many calls make a figure, and whether each waits for the answer of the one before.
+#[derive(Clone, Copy)]
+struct Pace {
+    part: usize,
+    waits: bool,
+}
+
+/// Count, find and turn with nothing else between them: plainly; each call waiting; in pages of 2 MiB.
+const KINDS: [(&str, bool, bool); 3] =
+    [(", alone", false, false), (", alone, waiting", false, true), (", alone, 2 MiB pages", true, false)];
+
+/// Nanoseconds for one call, a figure for each part of the queries.
+fn time(queries: &[usize], pace: Pace, mut call: impl FnMut(usize) -> usize) -> Vec<f64> {
+    let mut times = Vec::new();
+    let none = black_box(0);
+    for part in queries.chunks(pace.part) {
+        let began = Instant::now();
+        let sum = if pace.waits {
+            part.iter().fold(0, |sum: usize, query| sum.wrapping_add(call(*query + (sum & none))))
+        } else {
+            part.iter().fold(0, |sum: usize, query| sum.wrapping_add(call(*query)))
+        };
+        let took = began.elapsed().as_nanos() as f64;
+        black_box(sum);
+        times.push(took / part.len() as f64);
+    }
+    times
+}
+
+const PACE: Pace = Pace { part: 1000, waits: false };
+
+/// Lower quartile, median, upper quartile.
+fn quartiles(mut figures: Vec<f64>) -> Option<[f64; 3]> {
+    figures.sort_by(f64::total_cmp);
+    let last = figures.len().checked_sub(1)?;
+    Some([1, 2, 3].map(|q| figures[q * last / 4]))
+}
+
+/// A word with about `share` ones of 64: 1, 32 or 63.
+fn word(random: &mut Random, share: usize) -> u64 {
+    let rare = |random: &mut Random| (0..6).fold(!0, |x, _| x & random.number());
+    match share {
+        1 => rare(random),
+        63 => !rare(random),
+        _ => random.number(),
+    }
+}
+
+/// Strip, row and the rest over the same bits.
+struct Bench {
+    bits: usize,
+    share: usize,
+    words: Vec<u64>,
+    ones: usize,
+    record: Record,
+    row: Row,
+    sdsl: Option<Sdsl>,
+    roaring: Option<Roaring>,
+    random: Random,
+    waits: bool,
+}
+
+impl Bench {
+    fn new(power: u32, share: usize, huge: bool, others: bool) -> Bench {
+        let mut random = Random::new(1);
+        let bits = 1 << power;
+        let words: Vec<u64> = (0..bits / 64).map(|_| word(&mut random, share)).collect();
+        let record = Record::new(&words, huge);
+        let (sdsl, roaring) = if others { (Sdsl::new(&words), Roaring::new(&words)) } else { (None, None) };
+        let (ones, row) = (record.rank(1, bits), Row::new(&words));
+        Bench { bits, share, words, ones, record, row, sdsl, roaring, random, waits: false }
+    }
+
+    /// Random queries of a call.
+    fn queries(&mut self, call: Call, count: usize) -> Vec<usize> {
+        let (random, bits) = (&mut self.random, self.bits);
+        let mut below = |n: usize| (0..count).map(|_| random.below(n)).collect::<Vec<_>>();
+        match call {
+            Find(0) => below(bits - self.ones),
+            Find(_) | RowFind => below(self.ones),
+            Add => below(64).iter().map(|x| usize::from(*x < self.share)).collect(),
+            Run => below(bits / 64).iter().map(|j| 64 * j).collect(),
+            _ => below(bits),
+        }
+    }
+
+    /// How many calls in one measurement, and how many in a figure.
+    fn amounts(&self, call: Call, column: Column) -> (usize, usize) {
+        let near = 1 << 24;
+        match (call, column) {
+            (Next, Column::Scan) => (20_000, 1000),
+            (_, Column::Scan | Column::Popcnt) => ((near / self.bits).clamp(2, 16), 1),
+            (Run, Column::Roaring) => (100, 50),
+            (_, Column::Roaring) => (1000, 250),
+            (Run | Check | Freeze | Inspect, _) => ((near / self.bits).clamp(1, 16), 1),
+            _ => (20_000, 1000),
+        }
+    }
+
+    /// One measurement: nanoseconds for one call, nothing where there is nothing to measure.
+    fn measure(&mut self, call: Call, column: Column) -> Vec<f64> {
+        let (count, part) = self.amounts(call, column);
+        let (q, pace) = (self.queries(call, count), Pace { part, waits: self.waits });
+        match column {
+            Column::Library => self.library(call, &q, pace),
+            Column::Hand | Column::Again => self.hand(call, &q, pace),
+            Column::Scan => self.scan(call, &q, pace),
+            Column::Popcnt => self.popcnt(call, &q, pace),
+            Column::Sdsl => self.sdsl(call, &q, pace),
+            Column::Roaring => self.roaring(call, &q, pace),
+            Column::Memcpy if call == Freeze => time(&q, pace, |_| self.row.copy(&self.words)),
+            Column::Memcpy => Vec::new(),
+        }
+    }
+
+    /// Readies the record for so many calls; gives the next length at each step.
+    fn prepare(&mut self, call: Call, count: usize) -> impl FnMut() -> usize {
+        let mut length = self.bits - count;
+        if call == Add {
+            self.record.truncate(length);
+        }
+        move || {
+            length += 1;
+            length - 1
+        }
+    }
+
+    /// Makes the record again what it was.
+    fn restore(&mut self, call: Call) {
+        if matches!(call, Turn | Add | Run) {
+            self.record.restore(&self.words);
+        }
+    }
+
+    fn library(&mut self, call: Call, q: &[usize], pace: Pace) -> Vec<f64> {
+        let mut next = self.prepare(call, q.len());
+        let (r, row) = (&mut self.record, &mut self.row);
+        let times = match call {
+            Count => time(q, pace, |i| r.rank(1, i)),
+            Find(v) => time(q, pace, |k| r.select(v, k)),
+            Turn => time(q, pace, |i| r.flip(i)),
+            Flip => Vec::new(),
+            Add => time(q, pace, |v| r.push(next(), v as u64)),
+            Next => time(q, pace, |i| r.successor(1, i)),
+            Run => time(q, pace, |a| r.fill(a, a + 64, 1)),
+            Check => time(q, pace, |_| r.verify()),
+            Freeze => time(q, pace, |_| row.freeze(&self.words)),
+            Inspect => time(q, pace, |_| row.inspect()),
+            RowCount => time(q, pace, |i| row.rank(i)),
+            RowFind => time(q, pace, |k| row.select(k)),
+        };
+        self.restore(call);
+        times
+    }
+
+    fn hand(&mut self, call: Call, q: &[usize], pace: Pace) -> Vec<f64> {
+        let mut next = self.prepare(call, q.len());
+        let (r, row) = (&mut self.record, &mut self.row);
+        let times = match call {
+            Count => time(q, pace, |i| r.tree_rank(i)),
+            Find(v) => time(q, pace, |k| r.tree_select(v, k)),
+            Turn => time(q, pace, |i| r.tree_flip(i)),
+            Flip => Vec::new(),
+            Add => time(q, pace, |v| r.tree_push(next(), v as u64)),
+            Next => time(q, pace, |i| r.tree_successor(1, i)),
+            Run => time(q, pace, |a| r.tree_fill(a, a + 64, 1)),
+            Check => time(q, pace, |_| r.tree_verify()),
+            Freeze => time(q, pace, |_| row.tree_freeze(&self.words)),
+            Inspect => time(q, pace, |_| row.tree_inspect()),
+            RowCount => time(q, pace, |i| row.tree_rank(i)),
+            RowFind => time(q, pace, |k| row.tree_select(k)),
+        };
+        self.restore(call);
+        times
+    }
+
+    fn scan(&mut self, call: Call, q: &[usize], pace: Pace) -> Vec<f64> {
+        let words = self.record.words();
+        match call {
+            Count => time(q, pace, |i| scan::rank(words, i)),
+            Find(v) => time(q, pace, |k| scan::select(words, v, k)),
+            Next => time(q, pace, |i| scan::successor(words, 1, i)),
+            RowCount => time(q, pace, |i| scan::rank_in_bytes(self.row.bytes(), i)),
+            _ => Vec::new(),
+        }
+    }
+
+    fn popcnt(&mut self, call: Call, q: &[usize], pace: Pace) -> Vec<f64> {
+        let words = self.record.words();
+        // SAFETY: the machine has the instruction.
+        match call {
+            _ if !std::is_x86_feature_detected!("popcnt") => Vec::new(),
+            Count => time(q, pace, |i| unsafe { scan::rank_popcnt(words, i) }),
+            Find(v) => time(q, pace, |k| unsafe { scan::select_popcnt(words, v, k) }),
+            _ => Vec::new(),
+        }
+    }
+
+    fn sdsl(&mut self, call: Call, q: &[usize], pace: Pace) -> Vec<f64> {
+        let Some(s) = &self.sdsl else { return Vec::new() };
+        match call {
+            Count => time(q, pace, |i| s.rank(i)),
+            Find(v) => time(q, pace, |k| s.select(v, k)),
+            _ => Vec::new(),
+        }
+    }
+
+    fn roaring(&mut self, call: Call, q: &[usize], pace: Pace) -> Vec<f64> {
+        let Some(b) = &mut self.roaring else { return Vec::new() };
+        let mut length = self.bits - q.len();
+        if call == Add {
+            b.fill(length, self.bits, 0);
+        }
+        let times = match call {
+            Count => time(q, pace, |i| b.rank(i)),
+            Find(1) => time(q, pace, |k| b.select(k.min(self.ones - 1))),
+            Turn => time(q, pace, |i| b.turn(i)),
+            Flip => time(q, pace, |i| b.flip(i)),
+            Add => time(q, pace, |v| {
+                length += 1;
+                b.push(length - 1, v as u64)
+            }),
+            Next => time(q, pace, |i| b.successor(i)),
+            Run => time(q, pace, |a| b.fill(a, a + 64, 1)),
+            _ => Vec::new(),
+        };
+        let put = |b: &mut Roaring, a: usize| {
+            (a..a + 64).for_each(|p| {
+                if self.words[p / 64] >> (p % 64) & 1 == 0 {
+                    b.fill(p, p + 1, 0);
+                }
+            })
+        };
+        match call {
+            Turn | Flip => q.iter().rev().for_each(|i| {
+                b.turn(*i);
+            }),
+            Run => q.iter().for_each(|a| put(b, *a)),
+            _ => {}
+        }
+        times
+    }
+
+    /// Asserts that all agree, so that like is compared with like.
+    fn compare(&mut self) {
+        for call in [Count, Find(1), Find(0), Turn] {
+            for q in self.queries(call, 300) {
+                let (r, s, b) = (&mut self.record, &self.sdsl, &self.roaring);
+                let answers = match call {
+                    Count => {
+                        assert_eq!(self.row.rank(q), r.rank(1, q));
+                        assert_eq!(self.row.tree_rank(q), r.rank(1, q));
+                        assert_eq!(r.successor(1, q), r.tree_successor(1, q));
+                        assert_eq!(r.successor(1, q), scan::successor(r.words(), 1, q));
+                        let others = (s.as_ref().map(|s| s.rank(q)), b.as_ref().map(|b| b.rank(q)));
+                        (r.rank(1, q), r.tree_rank(q), others.0, others.1)
+                    }
+                    Find(v) => {
+                        assert!(v == 0 || self.row.select(q) == r.select(1, q));
+                        assert!(v == 0 || self.row.tree_select(q) == r.select(1, q));
+                        let others = (s.as_ref().map(|s| s.select(v, q)), b.as_ref().map(|b| b.select(q)));
+                        (r.select(v, q), r.tree_select(v, q), others.0, others.1.filter(|_| v == 1))
+                    }
+                    _ => (r.flip(q), r.tree_flip(q), None, None),
+                };
+                assert_eq!(answers.0, answers.1);
+                assert!(answers.2.is_none_or(|x| x == answers.0) && answers.3.is_none_or(|x| x == answers.0));
+            }
+        }
+        let (r, words) = (&self.record, self.record.words());
+        for q in [0, 1, self.bits / 3, self.bits - 1] {
+            assert_eq!(scan::rank(words, q), r.rank(1, q));
+            assert_eq!(scan::rank_in_bytes(self.row.bytes(), q), r.rank(1, q));
+            assert_eq!(scan::select(words, 1, q % self.ones), r.select(1, q % self.ones));
+        }
+        assert!(r.tree_verify() == 1 && r.verify() == self.ones);
+        assert!(self.row.inspect() == 1 && self.row.tree_inspect() == 1);
+    }
+
+    /// Rounds of these calls and columns; prints the figures under the calls' names and a note.
+    fn run(&mut self, calls: &[(Call, &str)], columns: &[(Column, &str)], note: &str, rounds: usize) {
+        let mut figures = vec![vec![Vec::new(); columns.len()]; calls.len()];
+        for number in 0..rounds {
+            for (x, (call, _)) in calls.iter().enumerate() {
+                // now the one goes first, now the other
+                for y in 0..columns.len() {
+                    let y = if number % 2 == 0 { y } else { columns.len() - 1 - y };
+                    figures[x][y].push(self.measure(*call, columns[y].0));
+                }
+            }
+        }
+        let at = format!("{}\t{}/64", self.bits.trailing_zeros(), self.share);
+        for (x, (_, name)) in calls.iter().enumerate() {
+            for (y, (_, column)) in columns.iter().enumerate() {
+                if let Some([a, b, c]) = quartiles(figures[x][y].concat()) {
+                    println!("time\t{at}\t{name}{note}\t{column}\t{a:.2}\t{b:.2}\t{c:.2}");
+                }
+            }
+            for (y, pair) in [(0, "library / C++"), (2, "C++ again / C++")] {
+                let medians = |y: usize| figures[x][y].iter().filter_map(|f| Some(quartiles(f.clone())?[1]));
+                let ratios = medians(y).zip(medians(1)).map(|(a, b)| a / b).collect();
+                if let Some([a, b, c]) = quartiles(ratios) {
+                    println!("ratio\t{at}\t{name}{note}\t{pair}\t{a:.3}\t{b:.3}\t{c:.3}");
+                }
+            }
+        }
+    }
+}
+
+/// The bytes of this process that lie in pages of 2 MiB.
+fn huge_bytes() -> usize {
+    let text = std::fs::read_to_string("/proc/self/smaps_rollup").unwrap_or_default();
+    let line = text.lines().find(|line| line.starts_with("AnonHugePages:"));
+    line.and_then(|line| line.split_whitespace().nth(1)?.parse::<usize>().ok()).map_or(0, |kib| 1024 * kib)
+}
+
+/// Select in a word, out of line on both sides.
+fn word_select(rounds: usize) {
+    let mut random = Random::new(1);
+    let mut figures = [Vec::new(), Vec::new()];
+    let mut query = || {
+        let x = random.number().max(1);
+        (x, random.below(x.count_ones() as usize))
+    };
+    let queries: Vec<(u64, usize)> = (0..1 << 14).map(|_| query()).collect();
+    let places: Vec<usize> = (0..queries.len()).collect();
+    // SAFETY: they take any word, and k is below its ones.
+    for _ in 0..rounds {
+        for (y, figures) in figures.iter_mut().enumerate() {
+            figures.extend(time(&places, PACE, |j| unsafe {
+                let (x, k) = queries[j];
+                if y == 0 {
+                    ffi::strip_select_in_word(x, k)
+                } else {
+                    tree_select_in_word(x, k)
+                }
+            }));
+        }
+    }
+    for (figures, column) in figures.into_iter().zip(["library", "C++"]) {
+        let [a, b, c] = quartiles(figures).unwrap();
+        println!("time\t6\t32/64\tword select\t{column}\t{a:.2}\t{b:.2}\t{c:.2}");
+    }
+}
+
+/// As many calls of each kind, for a counter of instructions; the whole-record calls a hundredth of them.
+fn calls(power: u32, count: usize) {
+    let mut bench = Bench::new(power, 32, false, false);
+    for (call, _) in CALLS.into_iter().filter(|(call, _)| *call != Find(0)) {
+        let whole = matches!(call, Run | Check | Freeze | Inspect);
+        let queries = bench.queries(call, 1000);
+        let q = &queries[..if whole { count / 100 } else { count }];
+        bench.library(call, q, PACE);
+        bench.hand(call, q, PACE);
+    }
+}
+
+fn main() {
+    let arguments: Vec<String> = std::env::args().skip(1).collect();
+    let number = |j: usize| arguments[j].parse::<usize>().expect("a number");
+    if arguments.first().is_some_and(|mode| mode == "calls") {
+        return calls(number(1) as u32, number(2));
+    }
+    let rounds = if arguments.is_empty() { 21 } else { number(0) };
+    let powers: Vec<u32> = (1..arguments.len()).map(|j| number(j) as u32).collect();
+    for power in if powers.is_empty() { vec![20, 24, 27] } else { powers } {
+        for share in [1, 32, 63] {
+            let mut bench = Bench::new(power, share, false, true);
+            bench.compare();
+            let (sdsl, roaring) = (bench.sdsl.as_ref().map(Sdsl::bytes), bench.roaring.as_ref().map(Roaring::bytes));
+            let kinds = [("sdsl rank", sdsl.map(|s| s.0)), ("sdsl select", sdsl.map(|s| s.1)), ("CRoaring", roaring)];
+            for (what, bytes) in kinds {
+                if let Some(bytes) = bytes {
+                    println!("bytes\t{power}\t{share}/64\t{what}\t{bytes}");
+                }
+            }
+            bench.run(&CALLS, &COLUMNS, "", rounds);
+        }
+        let calls = [(Count, "count"), (Find(1), "find 1"), (Turn, "turn")];
+        for (note, huge, waits) in KINDS {
+            let mut bench = Bench::new(power, 32, huge, false);
+            bench.waits = waits;
+            bench.run(&calls, &COLUMNS[..3], note, rounds);
+            println!("bytes\t{power}\t32/64\tin 2 MiB pages{note}\t{}", huge_bytes());
+        }
+    }
+    word_select(rounds);
+}

@@ -1,0 +1,172 @@
+//! A full strip and its counters: the library's calls on it, and those of tree.cpp.
+use crate::ffi::*;
+use std::alloc::{alloc, dealloc, Layout};
+
+extern "C" {
+    fn tree_rank(c: usize, words: *const u64, counters: *const u32, i: usize) -> usize;
+    fn tree_select(c: usize, words: *const u64, counters: *const u32, v: u64, k: usize) -> usize;
+    fn tree_successor(n: usize, words: *const u64, v: u64, i: usize) -> usize;
+    fn tree_flip(c: usize, words: *mut u64, counters: *mut u32, p: usize) -> usize;
+    fn tree_push(c: usize, words: *mut u64, counters: *mut u32, p: usize, v: u64) -> usize;
+    fn tree_fill(c: usize, n: usize, words: *mut u64, counters: *mut u32, a: usize, b: usize, v: u64) -> usize;
+    fn tree_verify(c: usize, n: usize, words: *const u64, counters: *const u32) -> bool;
+    fn madvise(at: *mut u8, size: usize, advice: i32) -> i32;
+}
+
+/// Numbers that start a page of 2 MiB, in such pages where they are asked for and can be had.
+pub struct Buffer<T> {
+    at: *mut T,
+    count: usize,
+    layout: Layout,
+}
+
+impl<T: Copy> Buffer<T> {
+    pub fn new(count: usize, zero: T, huge: bool) -> Buffer<T> {
+        let page = 1 << 21;
+        let layout = Layout::from_size_align((count * size_of::<T>()).next_multiple_of(page), page).unwrap();
+        // SAFETY: the layout is not empty; the numbers are written before they are read.
+        unsafe {
+            let at: *mut T = alloc(layout).cast();
+            assert!(!at.is_null());
+            if huge {
+                madvise(at.cast(), layout.size(), 14);
+            }
+            (0..count).for_each(|j| at.add(j).write(zero));
+            Buffer { at, count, layout }
+        }
+    }
+
+    pub fn get(&self) -> &[T] {
+        unsafe { std::slice::from_raw_parts(self.at, self.count) }
+    }
+
+    pub fn get_mut(&mut self) -> &mut [T] {
+        unsafe { std::slice::from_raw_parts_mut(self.at, self.count) }
+    }
+}
+
+impl<T> Drop for Buffer<T> {
+    fn drop(&mut self) {
+        unsafe { dealloc(self.at.cast(), self.layout) }
+    }
+}
+
+pub struct Record {
+    pub bits: usize,
+    words: Buffer<u64>,
+    counters: Buffer<u32>,
+    out: [u64; 5],
+}
+
+// SAFETY, here and below: the pointers are to as many numbers as are named with them, or as the capacity has.
+impl Record {
+    pub fn new(words: &[u64], huge: bool) -> Record {
+        let bits = 64 * words.len();
+        let blocks = bits / 512;
+        let height = (1..=3).find(|h| blocks <= 64usize.pow(*h)).unwrap();
+        let nodes: usize = (1..=height).map(|t| blocks.div_ceil(64usize.pow(t))).sum();
+        let counters = Buffer::new(72 * nodes, 0, huge);
+        let mut record = Record { bits, words: Buffer::new(words.len(), 0, huge), counters, out: [0; 5] };
+        record.restore(words);
+        record
+    }
+
+    /// Makes the record that of these words.
+    pub fn restore(&mut self, words: &[u64]) {
+        self.words.get_mut().copy_from_slice(words);
+        self.fill(0, 0, 0);
+        assert_eq!(self.out[0], 0);
+    }
+
+    pub fn words(&self) -> &[u64] {
+        self.words.get()
+    }
+
+    /// Words, counters and `out`, to be lent.
+    fn lend(&mut self) -> (*mut u64, usize, *mut u32, usize, *mut u64) {
+        let (w, c, out) = (self.words.get_mut(), self.counters.get_mut(), &mut self.out);
+        (w.as_mut_ptr(), w.len(), c.as_mut_ptr(), c.len(), out.as_mut_ptr())
+    }
+
+    fn parts(&self) -> (*const u64, usize, *const u32, usize) {
+        let (w, c) = (self.words.get(), self.counters.get());
+        (w.as_ptr(), w.len(), c.as_ptr(), c.len())
+    }
+
+    pub fn rank(&self, v: u64, i: usize) -> usize {
+        let (words, nw, counters, nc) = self.parts();
+        unsafe { strip_rank(self.bits, self.bits, words, nw, counters, nc, v, i) as usize }
+    }
+
+    pub fn select(&self, v: u64, k: usize) -> usize {
+        let (words, nw, counters, nc) = self.parts();
+        unsafe { strip_select(self.bits, self.bits, words, nw, counters, nc, v, k) as usize }
+    }
+
+    pub fn successor(&self, v: u64, i: usize) -> usize {
+        let (words, nw, _, _) = self.parts();
+        unsafe { strip_successor(self.bits, self.bits, words, nw, v, i) as usize }
+    }
+
+    pub fn verify(&self) -> usize {
+        let (words, nw, counters, nc) = self.parts();
+        unsafe { strip_verify(self.bits, self.bits, words, nw, counters, nc) as usize }
+    }
+
+    pub fn push(&mut self, length: usize, v: u64) -> usize {
+        let (words, nw, counters, nc, out) = self.lend();
+        unsafe { strip_push(self.bits, length, words, nw, counters, nc, v, out, 5) }
+        self.out[2] as usize
+    }
+
+    pub fn flip(&mut self, i: usize) -> usize {
+        let (words, nw, counters, nc, out) = self.lend();
+        unsafe { strip_flip(self.bits, self.bits, words, nw, counters, nc, i, out, 5) }
+        self.out[2] as usize
+    }
+
+    pub fn fill(&mut self, a: usize, b: usize, v: u64) -> usize {
+        let (words, nw, counters, nc, out) = self.lend();
+        unsafe { strip_fill(self.bits, self.bits, words, nw, counters, nc, a, b, v, out, 5) }
+        self.out[1] as usize
+    }
+
+    pub fn truncate(&mut self, n: usize) {
+        let (words, nw, counters, nc, out) = self.lend();
+        unsafe { strip_truncate(self.bits, self.bits, words, nw, counters, nc, n, out, 5) }
+    }
+
+    pub fn tree_rank(&self, i: usize) -> usize {
+        let (words, _, counters, _) = self.parts();
+        unsafe { tree_rank(self.bits, words, counters, i) }
+    }
+
+    pub fn tree_select(&self, v: u64, k: usize) -> usize {
+        let (words, _, counters, _) = self.parts();
+        unsafe { tree_select(self.bits, words, counters, v, k) }
+    }
+
+    pub fn tree_successor(&self, v: u64, i: usize) -> usize {
+        unsafe { tree_successor(self.bits, self.words().as_ptr(), v, i) }
+    }
+
+    pub fn tree_verify(&self) -> usize {
+        let (words, _, counters, _) = self.parts();
+        unsafe { usize::from(tree_verify(self.bits, self.bits, words, counters)) }
+    }
+
+    pub fn tree_push(&mut self, length: usize, v: u64) -> usize {
+        let (words, _, counters, _, _) = self.lend();
+        unsafe { tree_push(self.bits, words, counters, length, v) }
+    }
+
+    pub fn tree_flip(&mut self, i: usize) -> usize {
+        let (words, _, counters, _, _) = self.lend();
+        unsafe { tree_flip(self.bits, words, counters, i) }
+    }
+
+    pub fn tree_fill(&mut self, a: usize, b: usize, v: u64) -> usize {
+        let (words, _, counters, _, _) = self.lend();
+        unsafe { tree_fill(self.bits, self.bits, words, counters, a, b, v) }
+    }
+}

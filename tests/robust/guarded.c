@@ -1,0 +1,827 @@
+/* Every exported function, on buffers that lie flush against a closed page, with right, wrong and hostile arguments:
+ *
+ *     guarded end|start ROUNDS SEED
+ *
+ * All buffers end, or all start, at a closed page. What a call may only read is lent through a view that cannot be
+ * written. Each round draws a record and an image and makes calls of every kind on them. Held here is that a call touches
+ * nothing that was not lent, tells nothing that it may not tell, and changes nothing where it is refused or only reads;
+ * the readings of rows, opening and freezing are held to judge.h in full. At the end every function has been accepted and
+ * has met every refusal of its line. */
+#include "lend.h"
+
+#include "display.h"
+#include "judge.h"
+#include "testing.h"
+
+#include <inttypes.h>
+
+#define UNTOUCHED UINT64_C(0x5bd1e995a5a55a5a)
+#define WIDE (UINT64_C(1) << 32)
+
+enum { MOST_CAPACITY = 134217728, MOST_COUNTERS = 299592, MOST_IMAGE = 16 + 16 + 528 * 32768 + 64, SCRIPT = 24 };
+
+/* ---- what was told */
+
+enum call {
+    GET, SUCCESSOR, PREDECESSOR, SELECT_IN_WORD, RANK, SELECT, VERIFY, CREATE, PUSH, FLIP, FILL, TRUNCATE, CLEAR, FREEZE,
+    OPEN, ROW_GET, ROW_RANK, ROW_SELECT, PART_GET, PART_RANK, PART_SELECT, OPENED_GET, OPENED_RANK, OPENED_SELECT, EXECUTE,
+    STEP, INSPECT, ROW_COUNT, ROW_FIND, ROW_LOOK, CALLS
+};
+
+#define R(n) (1u << (n))
+#define HANDLE (R(1) | R(2))
+#define RECORD (R(1) | R(2) | R(3))
+#define OPENING (R(10) | R(11) | R(14))
+
+/* Each function's refusals. */
+static const struct {
+    const char *name;
+    unsigned refusals;
+} functions[CALLS] = {
+    [GET] = {"strip_get", HANDLE | R(4)},
+    [SUCCESSOR] = {"strip_successor", HANDLE | R(8) | R(4) | R(6)},
+    [PREDECESSOR] = {"strip_predecessor", HANDLE | R(8) | R(4) | R(6)},
+    [SELECT_IN_WORD] = {"strip_select_in_word", 0},
+    [RANK] = {"strip_rank", RECORD | R(8) | R(4) | R(9)},
+    [SELECT] = {"strip_select", RECORD | R(8) | R(6) | R(9)},
+    [VERIFY] = {"strip_verify", RECORD | R(9)},
+    [CREATE] = {"strip_create", RECORD},
+    [PUSH] = {"strip_push", RECORD | R(8) | R(7)},
+    [FLIP] = {"strip_flip", RECORD | R(4)},
+    [FILL] = {"strip_fill", RECORD | R(8) | R(5) | R(4)},
+    [TRUNCATE] = {"strip_truncate", RECORD | R(4)},
+    [CLEAR] = {"image_clear", R(13)},
+    [FREEZE] = {"image_freeze", HANDLE | R(10) | R(11) | R(12) | R(13)},
+    [OPEN] = {"image_open", OPENING},
+    [ROW_GET] = {"image_row_get", OPENING | R(4)},
+    [ROW_RANK] = {"image_row_rank", OPENING | R(8) | R(4) | R(15)},
+    [ROW_SELECT] = {"image_row_select", OPENING | R(8) | R(6) | R(15)},
+    [PART_GET] = {"image_part_get", R(10) | R(4)},
+    [PART_RANK] = {"image_part_rank", R(10) | R(8) | R(4) | R(15)},
+    [PART_SELECT] = {"image_part_select", R(10) | R(8) | R(6) | R(15)},
+    [OPENED_GET] = {"image_opened_get", R(10) | R(4)},
+    [OPENED_RANK] = {"image_opened_rank", R(10) | R(8) | R(4) | R(15)},
+    [OPENED_SELECT] = {"image_opened_select", R(10) | R(8) | R(6) | R(15)},
+    [EXECUTE] = {"strip_execute", RECORD | R(13)},
+    [STEP] = {"strip_step", 0xfffe},
+    [INSPECT] = {"strip_inspect", R(10) | R(15)},
+    [ROW_COUNT] = {"strip_row_count", OPENING | R(8) | R(4) | R(15)},
+    [ROW_FIND] = {"strip_row_find", OPENING | R(8) | R(6) | R(15)},
+    [ROW_LOOK] = {"strip_row_look", OPENING | R(4)},
+};
+
+static uint64_t calls[CALLS];
+static unsigned met[CALLS];
+
+static void expect(enum call call, int holds, const char *what)
+{
+    if (holds)
+        return;
+    printf("%s, call %" PRIu64 ": %s\n", functions[call].name, calls[call], what);
+    fflush(stdout);
+    abort();
+}
+
+/* Notes a refusal's number, 0 where the call was accepted. */
+static void note(enum call call, uint64_t refusal)
+{
+    expect(call, refusal == 0 || (refusal < 16 && functions[call].refusals >> refusal & 1),
+           "a refusal not of its line");
+    calls[call]++;
+    met[call] |= 1u << refusal;
+}
+
+/* Notes an answer, a refusal as 2^32 plus its number, and answers it. */
+static uint64_t told(enum call call, uint64_t answer)
+{
+    note(call, answer < WIDE ? 0 : answer == WIDE ? 99 : answer - WIDE);
+    return answer;
+}
+
+/* ---- numbers drawn */
+
+static uint64_t state;
+
+static uint64_t number(void)
+{
+    state ^= state << 13;
+    state ^= state >> 7;
+    return state ^= state << 17;
+}
+
+static uint64_t below(uint64_t n)
+{
+    return (number() >> 11) % n;
+}
+
+static int one_in(unsigned n)
+{
+    return below(n) == 0;
+}
+
+static uint64_t huge(void)
+{
+    static const uint64_t list[] = {WIDE, WIDE + 1, UINT64_C(1) << 63, UINT64_MAX - 511, UINT64_MAX - 1, UINT64_MAX};
+    return list[below(6)];
+}
+
+static uint64_t near(uint64_t n)
+{
+    return n + below(3) - 1;
+}
+
+static uint64_t value(void)
+{
+    return one_in(12) ? (one_in(2) ? 2 + below(300) : huge()) : below(2);
+}
+
+/* A position, a number of bits or a k on so many bits. */
+static uint64_t position(uint64_t length)
+{
+    switch (below(8)) {
+    case 0: return huge();
+    case 1: return WIDE + below(length + 1);
+    case 2:
+    case 3: return near(length);
+    case 4: return near(512 * below(length / 512 + 2));
+    case 5: return below(3);
+    default: return below(length + 1);
+    }
+}
+
+static uint64_t label_near(const struct judged *j)
+{
+    switch (below(12)) {
+    case 0: return huge();
+    case 1: return one_in(2) ? 0 : 65;
+    case 2: return WIDE + 1 + below(64);
+    case 3: return 1 + below(64);
+    default: return j->count == 0 ? 1 + below(4) : j->rows[below(j->count)].label;
+    }
+}
+
+/* A number of things lent where n are needed. */
+static size_t size_near(size_t n)
+{
+    if (!one_in(12))
+        return n;
+    switch (below(4)) {
+    case 0: return 0;
+    case 1: return n - 1;
+    case 2: return n + 1;
+    default: return below(2 * n);
+    }
+}
+
+/* ---- what is lent */
+
+static int at_end;
+static struct memory words_memory, counters_memory, image_memory, part_memory, out_memory, script_memory;
+
+/* The address to lend: of no bytes it may be NULL. */
+static void *lent_at(struct lent l, int writable)
+{
+    if (l.length == 0 && one_in(2))
+        return NULL;
+    return writable ? l.write : l.read;
+}
+
+#define WORDS(r) ((const uint64_t *)lent_at((r)->words, 0)), (r)->words.length / 8
+#define COUNTERS(r) ((const uint32_t *)lent_at((r)->counters, 0)), (r)->counters.length / 4
+#define WORDS_MUT(r) ((uint64_t *)lent_at((r)->words, 1)), (r)->words.length / 8
+#define COUNTERS_MUT(r) ((uint32_t *)lent_at((r)->counters, 1)), (r)->counters.length / 4
+
+/* The bytes lent, to be compared after a call that may not change them. */
+struct copy {
+    uint8_t *bytes;
+    size_t room;
+};
+
+static void keep(struct copy *c, struct lent l)
+{
+    if (c->room < l.length) {
+        free(c->bytes);
+        c->bytes = malloc(l.length);
+        c->room = l.length;
+        must(c->bytes != NULL, "no memory");
+    }
+    if (l.length > 0)
+        memcpy(c->bytes, l.write, l.length);
+}
+
+static int same(const struct copy *c, struct lent l)
+{
+    return l.length == 0 || memcmp(c->bytes, l.write, l.length) == 0;
+}
+
+static struct copy words_copy, counters_copy, image_copy;
+
+/* ---- a record */
+
+struct record {
+    size_t capacity, length;
+    struct lent words, counters;
+};
+
+static size_t counters_of(size_t capacity)
+{
+    size_t nodes = 0, children = capacity / 512;
+    do {
+        children = (children + 63) / 64;
+        nodes += children;
+    } while (children > 1);
+    return 72 * nodes;
+}
+
+/* A handle as passed: mostly the record's. */
+static size_t some_capacity(const struct record *r)
+{
+    static const size_t list[] = {0, 1, 511, 513, MOST_CAPACITY + 512, SIZE_MAX, SIZE_MAX - 511, (size_t)1 << 32};
+    return one_in(16) ? (one_in(4) ? r->capacity + 512 : list[below(8)]) : r->capacity;
+}
+
+static size_t some_length(const struct record *r)
+{
+    return one_in(24) ? (one_in(2) ? r->capacity + 1 : huge()) : r->length;
+}
+
+static void bytes_drawn(uint8_t *at, size_t n, unsigned kind)
+{
+    for (size_t b = 0; b < n; b++)
+        at[b] = kind == 0 ? 0 : kind == 1 ? 255 : kind == 2 ? number() & number() & number() : number();
+}
+
+/* The five numbers that a change tells, and after them untouched ones. */
+struct five {
+    struct lent lent;
+    uint64_t *at;
+    size_t room;
+};
+
+static struct five lend_five(void)
+{
+    struct five f;
+    f.room = one_in(12) ? below(5) : 5 + (one_in(4) ? below(4) : 0);
+    f.lent = lend(&out_memory, 8 * f.room, at_end);
+    for (size_t k = 0; k < f.room; k++)
+        ((uint64_t *)f.lent.write)[k] = UNTOUCHED;
+    if (f.room >= 5)
+        VALGRIND_MAKE_MEM_UNDEFINED(f.lent.write, 40);
+    f.at = lent_at(f.lent, 1);
+    return f;
+}
+
+/* After the call: whether it ran, its refusal noted, and no number past the fifth written. */
+static int told_five(enum call call, struct five f)
+{
+    uint64_t *out = (uint64_t *)f.lent.write;
+    give_back(f.lent);
+    for (size_t k = f.room < 5 ? 0 : 5; k < f.room; k++)
+        expect(call, out[k] == UNTOUCHED, "wrote past the five numbers, or to fewer");
+    if (f.room < 5) {
+        calls[call]++;
+        return 0;
+    }
+    expect(call, VALGRIND_CHECK_MEM_IS_DEFINED(out, 40) == 0, "left one of the five numbers unset");
+    note(call, out[0]);
+    return 1;
+}
+
+/* One change with drawn arguments, under the handle of c and n. What create is lent is not set. */
+static void make_change(const struct record *r, enum call call, size_t c, size_t n, struct five f)
+{
+    size_t i = position(r->length), k = one_in(2) ? i + below(200) : position(r->length);
+    uint64_t v = value();
+    if (call == CREATE) {
+        VALGRIND_MAKE_MEM_UNDEFINED(r->words.write, r->words.length);
+        VALGRIND_MAKE_MEM_UNDEFINED(r->counters.write, r->counters.length);
+        strip_create(c, WORDS_MUT(r), COUNTERS_MUT(r), f.at, f.room);
+    } else if (call == PUSH) {
+        strip_push(c, n, WORDS_MUT(r), COUNTERS_MUT(r), v, f.at, f.room);
+    } else if (call == FLIP) {
+        strip_flip(c, n, WORDS_MUT(r), COUNTERS_MUT(r), i, f.at, f.room);
+    } else if (call == FILL) {
+        strip_fill(c, n, WORDS_MUT(r), COUNTERS_MUT(r), i, k, v, f.at, f.room);
+    } else {
+        strip_truncate(c, n, WORDS_MUT(r), COUNTERS_MUT(r), i, f.at, f.room);
+    }
+}
+
+static int all_set(struct lent l)
+{
+    int set = VALGRIND_CHECK_MEM_IS_DEFINED(l.write, l.length) == 0;
+    VALGRIND_MAKE_MEM_DEFINED(l.write, l.length);
+    return set;
+}
+
+/* One change; the record goes on with the handle given back. Refused, or with no room, it changes nothing. */
+static void change(struct record *r, enum call call)
+{
+    size_t c = some_capacity(r), n = some_length(r);
+    struct five f = lend_five();
+    uint64_t *out = (uint64_t *)f.lent.write;
+    keep(&words_copy, r->words);
+    keep(&counters_copy, r->counters);
+    make_change(r, call, c, n, f);
+    if (told_five(call, f) && out[0] == 0) {
+        expect(call, all_set(r->words) && all_set(r->counters), "left a number unset");
+        expect(call, out[3] == c && out[4] <= c, "a wrong handle given back");
+        r->capacity = out[3];
+        r->length = out[4];
+        return;
+    }
+    VALGRIND_MAKE_MEM_DEFINED(r->words.write, r->words.length);
+    VALGRIND_MAKE_MEM_DEFINED(r->counters.write, r->counters.length);
+    expect(call, same(&words_copy, r->words) && same(&counters_copy, r->counters), "refused, and changed the record");
+    if (f.room >= 5 && call != CREATE)
+        expect(call, out[3] == c && out[4] == n, "refused, and another handle given back");
+}
+
+/* The calls that only read a record. */
+static void read_record(struct record *r, enum call call)
+{
+    size_t c = some_capacity(r), n = some_length(r), i = position(r->length);
+    uint64_t v = value(), answer, most = WIDE;
+    switch (call) {
+    case GET: answer = strip_get(c, n, WORDS(r), i), most = 1; break;
+    case SUCCESSOR: answer = strip_successor(c, n, WORDS(r), v, i), most = n - 1; break;
+    case PREDECESSOR: answer = strip_predecessor(c, n, WORDS(r), v, i), most = i - 1; break;
+    case RANK: answer = strip_rank(c, n, WORDS(r), COUNTERS(r), v, i), most = i; break;
+    case SELECT: answer = strip_select(c, n, WORDS(r), COUNTERS(r), v, i), most = n - 1; break;
+    default: answer = strip_verify(c, n, WORDS(r), COUNTERS(r)), most = n; break;
+    }
+    if (told(call, answer) < WIDE)
+        expect(call, answer <= most, "an answer out of its bounds");
+}
+
+static void select_in_word(void)
+{
+    uint64_t x = one_in(4) ? huge() : number() & (one_in(2) ? number() : UINT64_MAX);
+    uint64_t k = one_in(4) ? position(64) : below(64);
+    uint64_t p = told(SELECT_IN_WORD, strip_select_in_word(x, k)), before = 0;
+    expect(SELECT_IN_WORD, p <= 64, "a position past 64");
+    for (uint64_t b = 0; b < p && b < 64; b++)
+        before += x >> b & 1;
+    expect(SELECT_IN_WORD, p == 64 ? before <= k : before == k && (x >> p & 1) == 1, "another position");
+}
+
+static size_t drawn_capacity(void)
+{
+    static const size_t list[] = {32768, 33280, 65536, 66048};
+    if (one_in(400))
+        return one_in(2) ? 2097152 : 2097664;
+    return one_in(6) ? list[below(4)] : 512 * (1 + below(9));
+}
+
+/* A record: with as many words and counters as it needs, mostly; fitting, nearly so, or anything. */
+static struct record drawn_record(size_t capacity)
+{
+    struct record r = {capacity, one_in(4) ? capacity : below(capacity + 1), {0}, {0}};
+    r.words = lend(&words_memory, 8 * size_near(capacity / 64), at_end);
+    r.counters = lend(&counters_memory, 4 * size_near(counters_of(capacity)), at_end);
+    unsigned kind = below(4);
+    bytes_drawn(r.words.write, r.words.length, below(4));
+    if (kind == 0)
+        bytes_drawn(r.counters.write, r.counters.length, below(4));
+    if (kind == 0 || r.words.length != capacity / 8 || r.counters.length != 4 * counters_of(capacity))
+        return r;
+    uint64_t out[5];
+    strip_truncate(capacity, r.length, WORDS_MUT(&r), COUNTERS_MUT(&r), r.length, out, 5);
+    note(TRUNCATE, out[0]);
+    if (kind == 1)
+        r.counters.write[below(r.counters.length)] ^= 1 << below(8);
+    return r;
+}
+
+static void record_calls(struct record *r)
+{
+    static const enum call reads[] = {GET, SUCCESSOR, PREDECESSOR, RANK, SELECT, VERIFY};
+    static const enum call changes[] = {PUSH, FLIP, PUSH, FLIP, FILL, TRUNCATE, CREATE};
+    unsigned many = r->capacity > 100000 ? 2 : 20;
+    for (unsigned k = 0; k < many; k++) {
+        read_record(r, reads[below(6)]);
+        if (one_in(2))
+            change(r, changes[below(one_in(4) ? 7 : 4)]);
+    }
+    select_in_word();
+}
+
+/* ---- an image */
+
+static struct lent image;
+static struct judged judged;
+
+/* Opens, or closes where the chain is sound, what lies between its records. Readings skip it unread. */
+static void gaps(void (*use)(uint8_t *at, size_t n))
+{
+    uint64_t from = 16;
+    for (unsigned r = 0; judged.sound && r < judged.count; r++) {
+        if (judged.rows[r].start > from)
+            use(image.read + from, judged.rows[r].start - from);
+        from = judged.rows[r].start + record_size(judged.rows[r].length);
+    }
+    if (judged.sound && image.length > from && image.length < WIDE - PAGE)
+        use(image.read + from, image.length - from);
+}
+
+/* After the image has changed. */
+static void settle(void)
+{
+    judge(&judged, image.write, image.length);
+    gaps(close_bytes);
+}
+
+static void clear(void)
+{
+    gaps(open_bytes);
+    if (image.length < WIDE - PAGE)
+        keep(&image_copy, image);
+    uint64_t answer = told(CLEAR, image_clear(lent_at(image, 1), image.length));
+    int fit = image.length >= 16 && image.length <= WIDE;
+    expect(CLEAR, answer == (fit ? 16 : REFUSED(13)), "another answer");
+    size_t from = fit ? 16 : 0;
+    if (image.length > from && image.length < WIDE - PAGE)
+        expect(CLEAR, memcmp(image_copy.bytes + from, image.write + from, image.length - from) == 0,
+               "wrote past the header");
+    settle();
+    expect(CLEAR, !fit || (judged.sound && judged.count == 0), "not an empty chain");
+}
+
+/* The answer of freeze, by its line. */
+static uint64_t freeze_answer(size_t c, size_t n, const struct record *r, uint64_t label, uint64_t *start)
+{
+    const struct row *row, *last = judged.count == 0 ? NULL : &judged.rows[judged.count - 1];
+    if (c % 512 != 0 || c < 512 || c > MOST_CAPACITY || n > c)
+        return REFUSED(1);
+    if (r->words.length != c / 8)
+        return REFUSED(2);
+    uint64_t refused = opened(&judged, label, &row);
+    if (refused != REFUSED(14))
+        return refused == 0 ? REFUSED(12) : refused;
+    *start = last == NULL ? 16 : last->start + record_size(last->length);
+    return *start + record_size(n) > image.length ? REFUSED(13) : *start / 16;
+}
+
+/* The row just written is right, and has the strip's bits; no byte changed but its own and those of one index. */
+static void freeze_wrote(const struct record *r, size_t n, uint64_t start, uint64_t index)
+{
+    const struct row *row = &judged.rows[judged.count - 1];
+    expect(FREEZE, judged.sound && row->start == start && row->length == n && row->right,
+           "not a right row at its place");
+    expect(FREEZE, memcmp(row->bits, r->words.write, n / 8) == 0, "another byte of bits");
+    for (uint64_t p = n / 8 * 8; p < n; p++)
+        expect(FREEZE, bit(row->bits, p) == bit(r->words.write, p), "another bit");
+    if (image.length >= WIDE - PAGE)
+        return;
+    memcpy(image_copy.bytes + index, image.write + index, 4);
+    memcpy(image_copy.bytes + start, image.write + start, record_size(n));
+    expect(FREEZE, same(&image_copy, image), "wrote to another byte");
+}
+
+static void freeze(const struct record *r, uint64_t label)
+{
+    size_t c = some_capacity(r), n = some_length(r);
+    uint64_t start = 0, index = judged.count == 0 ? 0 : judged.rows[judged.count - 1].start;
+    uint64_t answer = freeze_answer(c, n, r, label, &start);
+    gaps(open_bytes);
+    if (image.length < WIDE - PAGE)
+        keep(&image_copy, image);
+    uint8_t *at = lent_at(image, 1);
+    expect(FREEZE, told(FREEZE, image_freeze(c, n, WORDS(r), at, image.length, label)) == answer, "another answer");
+    settle();
+    if (answer < WIDE)
+        freeze_wrote(r, n, start, index);
+    else
+        expect(FREEZE, image.length >= WIDE - PAGE || same(&image_copy, image), "refused, and changed the image");
+}
+
+/* Makes a record of the chain a gap, or a wrong row, or breaks the chain. */
+static void damage(void)
+{
+    static const uint64_t list[] = {0, 1, 64, 65, 4096, 4097, MOST_ROW, MOST_ROW + 1, UINT32_MAX, 1 << 28};
+    gaps(open_bytes);
+    unsigned r = judged.count == 0 ? 0 : below(judged.count);
+    uint64_t at = judged.count == 0 ? 0 : judged.rows[r].start;
+    uint8_t *byte = image.write + at;
+    uint64_t field = one_in(4) ? near(image.length / 16) : one_in(3) ? near(at / 16) : list[below(10)];
+    if (image.length < 16)
+        ;
+    else if (one_in(3) && judged.count > 0)
+        memcpy(image.write + (r == 0 ? 0 : judged.rows[r - 1].start), byte, 4); /* unlinked: a gap */
+    else if (one_in(2) && judged.count > 0 && judged.rows[r].length > 0)
+        byte[12 + below(one_in(2) ? 20 : record_size(judged.rows[r].length) - 12)] ^= one_in(2) ? 255 : 1 << below(8);
+    else if (one_in(2))
+        for (unsigned b = 0, from = 4 * below(4); b < 4; b++)
+            byte[from + b] = (uint8_t)(field >> (8 * b));
+    else
+        image.write[below(image.length)] ^= 1 << below(8);
+    settle();
+}
+
+static void drawn_image(const struct record *r)
+{
+    static const size_t sizes[] = {0, 1, 15, 16, 17, 31, 32, 33, 559, 560};
+    size_t size = one_in(8) ? sizes[below(10)] : 16 + below(one_in(4) ? 600 : one_in(4) ? 60000 : 6000);
+    image = lend(&image_memory, size, at_end);
+    bytes_drawn(image.write, size, below(4));
+    settle();
+    if (!one_in(12))
+        clear();
+    for (unsigned k = below(7); k > 0; k--) {
+        struct record part = *r;
+        part.length = one_in(2) ? r->length : below(r->length + 1);
+        freeze(&part, one_in(6) ? label_near(&judged) : 1 + below(64));
+    }
+    for (unsigned k = one_in(2) ? 1 + below(3) : 0; k > 0; k--)
+        damage();
+}
+
+/* ---- the readings of an image */
+
+#define IMAGE ((const uint8_t *)lent_at(image, 0)), image.length
+
+/* What readings of a row may tell, on the row or after a refused opening. */
+static void hold_get(enum call call, const struct row *row, uint64_t refused, uint64_t i, uint64_t answer)
+{
+    expect(call, told(call, answer) == (row == NULL ? refused : look_answer(row, i)), "another answer");
+}
+
+static void hold_rank(enum call call, const struct row *row, uint64_t refused, uint64_t v, uint64_t i, uint64_t answer)
+{
+    told(call, answer);
+    expect(call, row == NULL ? answer == refused : count_allowed(row, v, i, answer), "another answer");
+}
+
+static void hold_select(enum call call, const struct row *row, uint64_t refused, uint64_t v, uint64_t k,
+                        uint64_t answer)
+{
+    told(call, answer);
+    expect(call, row == NULL ? answer == refused : find_allowed(row, v, k, answer), "another answer");
+}
+
+/* All readings by label: the display's, those of the testing library, and on an opened row, which has 10 alone. */
+static void read_label(uint64_t label)
+{
+    const struct row *row;
+    uint64_t no = opened(&judged, label, &row), length = row == NULL ? 600 : row->length;
+    uint64_t v = value(), i = position(length), k = position(one_in(2) ? length : length / 2);
+    uint64_t start = told(OPEN, image_open(IMAGE, label)), count = told(INSPECT, strip_inspect(IMAGE));
+    expect(OPEN, start == (row == NULL ? no : row->start), "another answer");
+    expect(INSPECT, count == inspect_answer(&judged), "another answer");
+    hold_get(ROW_LOOK, row, no, i, strip_row_look(IMAGE, label, i));
+    hold_rank(ROW_COUNT, row, no, v, i, strip_row_count(IMAGE, label, v, i));
+    hold_select(ROW_FIND, row, no, v, k, strip_row_find(IMAGE, label, v, k));
+    hold_get(ROW_GET, row, no, i, image_row_get(IMAGE, label, i));
+    hold_rank(ROW_RANK, row, no, v, i, image_row_rank(IMAGE, label, v, i));
+    hold_select(ROW_SELECT, row, no, v, k, image_row_select(IMAGE, label, v, k));
+    hold_get(OPENED_GET, row, REFUSED(10), i, image_opened_get(IMAGE, label, i));
+    hold_rank(OPENED_RANK, row, REFUSED(10), v, i, image_opened_rank(IMAGE, label, v, i));
+    hold_select(OPENED_SELECT, row, REFUSED(10), v, k, image_opened_select(IMAGE, label, v, k));
+}
+
+/* A row's own part, alone in its memory; at times of another size, with another length held, or damaged. */
+static void read_part(void)
+{
+    if (judged.count == 0 || image.length >= WIDE - PAGE)
+        return;
+    const struct row *whole = &judged.rows[below(judged.count)];
+    size_t size = record_size(whole->length), lent_size = one_in(6) ? (one_in(2) ? near(size) : below(size)) : size;
+    size_t n = one_in(8) ? (one_in(2) ? near(whole->length) : position(whole->length)) : whole->length;
+    struct lent part = lend(&part_memory, lent_size, at_end);
+    memset(part.write, 0, lent_size);
+    memcpy(part.write, image.write + whole->start, lent_size < size ? lent_size : size);
+    if (one_in(6) && lent_size > 16)
+        part.write[4 + below(one_in(2) ? 12 : lent_size - 4)] ^= one_in(2) ? 255 : 1 << below(8);
+    struct judged one = {1, 0, {{0}}};
+    int record = take_record(&one, part.write, lent_size, 0) && record_size(one.rows[0].length) == lent_size;
+    const struct row *row = record && one.rows[0].length == n ? &one.rows[0] : NULL;
+    const uint8_t *at = lent_at(part, 0);
+    uint64_t v = value(), i = position(whole->length), k = position(whole->length);
+    hold_get(PART_GET, row, REFUSED(10), i, image_part_get(at, lent_size, n, i));
+    hold_rank(PART_RANK, row, REFUSED(10), v, i, image_part_rank(at, lent_size, n, v, i));
+    hold_select(PART_SELECT, row, REFUSED(10), v, k, image_part_select(at, lent_size, n, v, k));
+    give_back(part);
+}
+
+/* ---- scripts */
+
+static int changes_record(uint64_t op)
+{
+    return op % 17 < 5;
+}
+
+static int changes_image(uint64_t op)
+{
+    return op % 17 == 11 || op % 17 == 12;
+}
+
+static uint64_t first_argument(const struct record *r, uint64_t op)
+{
+    if (op == 0)
+        return some_capacity(r);
+    if (op == 12 || op >= 14)
+        return label_near(&judged);
+    return op == 1 || (op >= 6 && op <= 9) ? value() : position(r->length);
+}
+
+static void drawn_call(const struct record *r, uint64_t call[4])
+{
+    uint64_t op = below(17);
+    call[0] = one_in(4) ? op + 17 * below(UINT64_MAX / 17) : op;
+    call[1] = first_argument(r, op);
+    call[2] = op == 14 || op == 15 ? value() : position(r->length);
+    call[3] = op == 3 ? value() : position(r->length);
+}
+
+static void keep_all(const struct record *r)
+{
+    keep(&words_copy, r->words);
+    keep(&counters_copy, r->counters);
+    keep(&image_copy, image);
+}
+
+static int same_record(const struct record *r)
+{
+    return same(&words_copy, r->words) && same(&counters_copy, r->counters);
+}
+
+static void step(struct record *r)
+{
+    uint64_t call[4], c = some_capacity(r), n = some_length(r);
+    drawn_call(r, call);
+    struct five f = lend_five();
+    keep_all(r);
+    gaps(open_bytes);
+    strip_step(call[0], call[1], call[2], call[3], c, n, WORDS_MUT(r), COUNTERS_MUT(r), lent_at(image, 1), image.length,
+               f.at, f.room);
+    uint64_t *out = (uint64_t *)f.lent.write;
+    int accepted = told_five(STEP, f) && out[0] == 0;
+    expect(STEP, (accepted && changes_record(call[0])) || same_record(r), "changed the record");
+    expect(STEP, (accepted && changes_image(call[0])) || same(&image_copy, image), "changed the image");
+    if (accepted && changes_record(call[0])) {
+        r->capacity = out[3];
+        r->length = out[4];
+    }
+    settle();
+}
+
+/* A script of so many calls, and up to three numbers more. */
+static struct lent lend_script(const struct record *r, size_t number_of_calls)
+{
+    size_t rest = below(4);
+    uint64_t call[4];
+    struct lent script = lend(&script_memory, 32 * number_of_calls + 8 * rest, at_end);
+    for (size_t k = 0; k <= number_of_calls; k++) {
+        drawn_call(r, call);
+        memcpy(script.write + 32 * k, call, k < number_of_calls ? 32 : 8 * rest);
+    }
+    return script;
+}
+
+/* A whole script, with as many answers as it needs, more, or fewer: then nothing runs. */
+static void execute(struct record *r)
+{
+    size_t most = below(SCRIPT + 1), need = 3 + 3 * most;
+    size_t room = one_in(8) ? below(need) : need + (one_in(4) ? below(5) : 0);
+    struct lent script = lend_script(r, most), answers = lend(&out_memory, 8 * room, at_end);
+    uint64_t *out = (uint64_t *)answers.write, c = some_capacity(r);
+    for (size_t k = 0; k < room; k++)
+        out[k] = UNTOUCHED;
+    keep_all(r);
+    gaps(open_bytes);
+    uint64_t run = strip_execute(lent_at(script, 0), script.length / 8, c, one_in(2) ? 0 : number(), WORDS_MUT(r),
+                                 COUNTERS_MUT(r), lent_at(image, 1), image.length, lent_at(answers, 1), room);
+    give_back(script);
+    give_back(answers);
+    settle();
+    if (room < need)
+        calls[EXECUTE]++;
+    else
+        note(EXECUTE, out[0]);
+    int ran = room >= need && out[0] == 0;
+    expect(EXECUTE, run == (ran ? most : room < need ? UINT64_MAX : 0), "another number of calls run");
+    for (size_t k = ran ? need : room < need ? 0 : 1; k < room; k++)
+        expect(EXECUTE, out[k] == UNTOUCHED, "an answer that is none");
+    expect(EXECUTE, ran || (same_record(r) && same(&image_copy, image)), "nothing run, and something changed");
+    if (ran) {
+        expect(EXECUTE, out[1] / 8 == r->words.length && out[2] <= out[1], "a wrong handle");
+        expect(EXECUTE, judged.sound, "no sound chain");
+        r->capacity = out[1];
+        r->length = out[2];
+    }
+}
+
+/* ---- the largest */
+
+/* A record of the largest capacity, frozen into an image that it fills. */
+static void largest_record(void)
+{
+    struct record r = {MOST_CAPACITY, MOST_CAPACITY, {0}, {0}};
+    r.words = lend(&words_memory, MOST_CAPACITY / 8, at_end);
+    r.counters = lend(&counters_memory, 4 * MOST_COUNTERS, at_end);
+    memset(r.words.write, 0x5a, r.words.length);
+    uint64_t out[5];
+    strip_truncate(r.capacity, r.length, WORDS_MUT(&r), COUNTERS_MUT(&r), r.length, out, 5);
+    note(TRUNCATE, out[0]);
+    expect(TRUNCATE, out[1] == MOST_CAPACITY / 2, "another number of ones");
+    uint64_t last = told(SELECT, strip_select(r.capacity, r.length, WORDS(&r), COUNTERS(&r), 1, MOST_CAPACITY / 2 - 1));
+    expect(SELECT, last == MOST_CAPACITY - 2, "another position");
+    for (unsigned k = 0; k < 6; k++) {
+        read_record(&r, RANK);
+        read_record(&r, SELECT);
+        change(&r, FLIP);
+    }
+    image = lend(&image_memory, 16 + record_size(r.length), at_end);
+    settle();
+    clear();
+    while (judged.count == 0)
+        freeze(&r, 64);
+    for (unsigned k = 0; k < 3; k++)
+        read_label(64);
+    gaps(open_bytes);
+    give_back(image);
+    give_back(r.words);
+    give_back(r.counters);
+}
+
+/* An image of about 2^32 bytes with one row of `length` zeros at its end. Bytes that no call touches take no memory. */
+static void largest_image(size_t size, uint64_t length)
+{
+    static struct memory most;
+    static const uint8_t kind[16] = {0, 0, 0, 0, 1};
+    if (most.size == 0)
+        most = memory_of(WIDE + PAGE);
+    image = lend(&most, size, at_end);
+    uint64_t start = (WIDE - record_size(length)) / 16 * 16;
+    uint8_t record[16] = {0, 0, 0, 0, 7, 0, 0, 0, (uint8_t)length, (uint8_t)(length >> 8)};
+    memcpy(image.write, kind, 16);
+    for (unsigned b = 0; b < 4; b++)
+        image.write[b] = (uint8_t)(start / 16 >> (8 * b));
+    memcpy(image.write + start, record, size < start + 16 ? size - start : 16);
+    if (size > start + 16)
+        memset(image.write + start + 16, 0, size - start - 16);
+    settle();
+    must(judged.sound == (size == WIDE), "the chain is sound in 2^32 bytes alone");
+    for (unsigned k = 0; k < 8; k++)
+        read_label(one_in(4) ? label_near(&judged) : 7);
+    struct record r = drawn_record(1024);
+    freeze(&r, 8);
+    clear();
+    freeze(&r, 9);
+    read_label(9);
+    memset(image.write, 0, 4096);
+    give_back(image);
+    give_back(r.words);
+    give_back(r.counters);
+}
+
+static void one_round(void)
+{
+    struct record r = drawn_record(drawn_capacity());
+    record_calls(&r);
+    drawn_image(&r);
+    for (unsigned k = 0; k < 6; k++) {
+        read_label(label_near(&judged));
+        read_part();
+    }
+    for (unsigned k = 0; k < 6; k++)
+        step(&r);
+    if (one_in(3))
+        execute(&r);
+    gaps(open_bytes);
+    give_back(image);
+    give_back(r.words);
+    give_back(r.counters);
+}
+
+int main(int count, char **args)
+{
+    must(count == 4 && (strcmp(args[1], "end") == 0 || strcmp(args[1], "start") == 0), "guarded end|start ROUNDS SEED");
+    at_end = strcmp(args[1], "end") == 0;
+    state = strtoull(args[3], NULL, 10);
+    must(state != 0, "a seed other than 0");
+    words_memory = memory_of(MOST_CAPACITY / 8);
+    counters_memory = memory_of(4 * MOST_COUNTERS);
+    image_memory = memory_of(MOST_IMAGE);
+    part_memory = memory_of(MOST_IMAGE);
+    out_memory = memory_of(PAGE);
+    script_memory = memory_of(PAGE);
+    largest_record();
+    for (int off = -1; off <= 1; off++)
+        for (uint64_t length = 0; length <= 300; length += 300)
+            largest_image(WIDE + off, length);
+    for (uint64_t rounds = strtoull(args[2], NULL, 10); rounds > 0; rounds--)
+        one_round();
+
+    uint64_t all = 0;
+    for (int call = 0; call < CALLS; call++) {
+        printf("  %-22s %9" PRIu64 " calls\n", functions[call].name, calls[call]);
+        all += calls[call];
+        if (met[call] != (functions[call].refusals | 1)) {
+            printf("%s met %x, not %x\n", functions[call].name, met[call], functions[call].refusals | 1);
+            return 1;
+        }
+    }
+    printf("buffers at the %s of a page, seed %s: %" PRIu64 " calls of %d functions\n", args[1], args[3], all, CALLS);
+    return 0;
+}
