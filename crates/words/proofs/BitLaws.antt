@@ -1,7 +1,7 @@
 -- The laws of `bit x p`: of shifts, masks and the machine's operators, and of the machine's count of ones. Assumes nothing.
 use mathlib.Core.Path.{_≡_, refl, sym, ap, _∙_, subst}
 use Prim.Native.Nat.{ℕ, zero, suc, _+_, _-_, _*_, _/_, _%_, _^_, _≤_, _<_, min, max}
-use native.Mathlib.Nat.{mod-lt, mod-eq-of-lt, div-one, div-eq-of-lt, le-of-suc-le-suc, pow-suc, one-mul, mul-mod-left, zero-div, zero-mod, mul-div-cancel, mul-assoc, zero-lt-suc, lt-of-le-of-lt, lt-of-lt-of-le, min-le-left}
+use native.Mathlib.Nat.{mod-lt, mod-eq-of-lt, div-one, div-eq-of-lt, le-div-iff-mul-le, le-of-suc-le-suc, pow-suc, one-mul, mul-mod-left, zero-div, zero-mod, mul-div-cancel, mul-assoc, zero-lt-suc, lt-of-le-of-lt, lt-of-lt-of-le, min-le-left}
 use native.Mathlib.Numerals.{add-one, one-add}
 use native.Mathlib.Omega.{arith}
 use lib.Dec.{lit<}
@@ -37,6 +37,13 @@ bit-mod x a p h =
 -- a number below 2 ^ w has no bit at or past w
 pub bit-high : (x w p : ℕ) → x < 2 ^ w → w ≤ p → bit x p ≡ 0
 bit-high x w p h l = ap (λ (n : ℕ). n % 2) (div-eq-of-lt (lt-of-lt-of-le h (pow-mono l))) ∙ zero-mod 2
+
+-- the highest one of a number
+pub bit-top : (x p : ℕ) → 2 ^ p ≤ x → x < 2 ^ suc p → bit x p ≡ 1
+bit-top x p l h =
+    let some : 1 ≤ x / 2 ^ p = le-div-iff-mul-le (pow-pos p) .1 (subst (λ (m : ℕ). m ≤ x) (sym (one-mul (2 ^ p))) l) in
+    let only : x / 2 ^ p < 2 = shr-lt 1 p (subst (λ (m : ℕ). x < 2 ^ m) (sym (one-add p)) h) in
+    omega arith
 
 pub bit-shl-at : (x a p : ℕ) → bit (x * 2 ^ a) (a + p) ≡ bit x p
 bit-shl-at x a p = sym (bit-shr (x * 2 ^ a) a p) ∙ ap (λ (n : ℕ). bit n p) (mul-div-cancel x (pow-pos a))
@@ -149,6 +156,10 @@ mask-above n a p h =
 
 pub mask-lt : (n a w : ℕ) → n + a ≤ w → mask n a < 2 ^ w
 mask-lt n a w h = lt-of-lt-of-le (shl-lt n a (ones-lt n)) (pow-mono h)
+
+-- a single one
+pub mask-one : (a : ℕ) → mask 1 a ≡ 2 ^ a
+mask-one a = one-mul (2 ^ a)
 
 -- as the code makes it: the low a + n ones less the low a
 pub mask-is : (n a : ℕ) → (2 ^ (n + a) - 1) - (2 ^ a - 1) ≡ mask n a

@@ -1,65 +1,77 @@
--- Select in a block by halving: the words that hold the k-th v, how many v come before them, and the position. Assumes nothing.
-use mathlib.Core.Path.{_≡_, refl, sym, ap, _∙_, subst}
+-- Select in a block by running counts: the word that holds the k-th v, how many v come before it, and the position. Assumes nothing.
+use mathlib.Core.Path.{_≡_, sym, ap, _∙_}
 use mathlib.Core.Logic.{_⊎_, inl, inr}
 use mathlib.Core.List.{List}
-use Prim.Native.Nat.{ℕ, _+_, _-_, _*_, _≤_, _<_}
+use Prim.Native.Nat.{ℕ, _+_, _*_, _≤_, _<_, zero-le}
 use native.Mathlib.Nat.{le-refl}
 use native.Mathlib.Omega.{arith}
 use lib.ListN.{getD}
 use Rattle.words.specs.Bits.{bit, bitAt}
 use Rattle.words.specs.Strip.{holds, rankOf, selectOf}
 use Rattle.words.specs.Words.{placeIn, selectIn}
-use Rattle.words.proofs.Sums.{lt-or, ones-zero}
+use Rattle.words.proofs.Sums.{lt-or, ones-zero, ones-mono}
 use Rattle.words.proofs.WordLaws.{word-bit}
 use Rattle.words.proofs.SearchLaws.{rank-part, placeIn-none, part-select}
 
 -- the v before the end of word j
-pub word-rank : (ws : List ℕ) (v j k : ℕ) → k ≡ j + 1 → rankOf (bitAt ws) v (64 * j) + rankOf (bit (getD ws j 0)) v 64 ≡ rankOf (bitAt ws) v (64 * k)
-word-rank ws v j k s =
-    let e : 64 * k ≡ 64 * j + 64 = omega arith in
+pub word-rank : (ws : List ℕ) (v j : ℕ) → rankOf (bitAt ws) v (64 * j) + rankOf (bit (getD ws j 0)) v 64 ≡ rankOf (bitAt ws) v (64 * (j + 1))
+word-rank ws v j =
+    let e : 64 * (j + 1) ≡ 64 * j + 64 = omega arith in
     sym (ap (rankOf (bitAt ws) v) e ∙ rank-part (bitAt ws) (bit (getD ws j 0)) (64 * j) 64 v 64 (λ p l. sym (word-bit ws j p l)) (le-refl 64))
 
--- the k-th v lies in the words j to e - 1 of a block, with `left` of v before it there; or these words reach the block's end
-pub record Span (f : ℕ → ℕ) (v k j e left : ℕ) : Type 0 where
-  pub within : e ≤ 8
-  pub under : rankOf f v (64 * j) + left ≡ k
-  pub over : (e ≡ 8) ⊎ (k < rankOf f v (64 * e))
+-- of the first i words, those before word j hold `passed` of v, at most k, and with word j, if it is one of them, more than k
+pub record Passed (f : ℕ → ℕ) (v k i j passed : ℕ) : Type 0 where
+  pub within : j ≤ i
+  pub count : passed ≡ rankOf f v (64 * j)
+  pub low : passed ≤ k
+  pub above : j < i → k < rankOf f v (64 * (j + 1))
 
--- the whole block
-pub span-all : (f : ℕ → ℕ) (v k : ℕ) → Span f v k 0 (0 + 8) k
-span-all f v k = record { within = le-refl 8; under = omega (arith, ones-zero (holds f v)); over = inl refl }
+-- at the start
+pub passed-none : (f : ℕ → ℕ) (v k : ℕ) → Passed f v k 0 0 0
+passed-none f v k = record { within = zero-le; count = sym (ones-zero (holds f v)); low = zero-le; above = (λ l. absurd (omega arith)) }
 
--- of w words and w words, the first hold n of v: past them, or in them
-pub span-half : (f : ℕ → ℕ) (v k j w n left i rest : ℕ) → rankOf f v (64 * j) + n ≡ rankOf f v (64 * (j + w)) → Span f v k j (j + (w + w)) left
-    → ((n ≤ left) × ((i ≡ j + w) × (rest ≡ left - n))) ⊎ ((left < n) × ((i ≡ j) × (rest ≡ left))) → Span f v k i (i + w) rest
-span-half f v k j w n left i rest c s (inl h) =
-    let e : j + (w + w) ≡ i + w = omega (arith, h .1 .0) in
+-- one more word, with which there are `sum` of v: at most k or above it
+pub passed-more : (f : ℕ → ℕ) (v k i j passed sum m rest : ℕ) → sum ≡ rankOf f v (64 * (i + 1)) → Passed f v k i j passed
+    → ((sum ≤ k) × ((m ≡ j + 1) × (rest ≡ sum))) ⊎ ((k < sum) × ((m ≡ j) × (rest ≡ passed))) → Passed f v k (i + 1) m rest
+passed-more f v k i j passed sum m rest e h (inl w) =
+    let all : i ≡ j = full (lt-or j i) in
     record {
-      within = omega (arith, s .within);
-      under = omega (arith, s .under, h .1 .1, ap (λ (m : ℕ). rankOf f v (64 * m)) (h .1 .0));
-      over = subst (λ (m : ℕ). (m ≡ 8) ⊎ (k < rankOf f v (64 * m))) e (s .over);
+      within = omega (arith, w .1 .0);
+      count = w .1 .1 ∙ e ∙ ap (λ (n : ℕ). rankOf f v (64 * n)) (ap (λ (n : ℕ). n + 1) all ∙ sym (w .1 .0));
+      low = omega (arith, w);
+      above = (λ l. absurd (omega (arith, w .1 .0)));
     }
-span-half f v k j w n left i rest c s (inr h) =
-    record {
-      within = omega (arith, s .within, h .1 .0);
-      under = omega (arith, s .under, h .1 .1, ap (λ (m : ℕ). rankOf f v (64 * m)) (h .1 .0));
-      over = inr (omega (arith, s .under, h .0, ap (λ (m : ℕ). rankOf f v (64 * (m + w))) (h .1 .0)));
-    }
-
--- in one word: the position there, or the end
-pub span-word : (ws : List ℕ) (v k j left r : ℕ) → Span (bitAt ws) v k j (j + 1) left → r ≡ selectIn 64 (getD ws j 0) v left
-    → (r ≤ 64) × (64 * j + r ≡ placeIn 512 (selectOf (bitAt ws) 512 v k))
-span-word ws v k j left r s e = go (lt-or left (rankOf (bit (getD ws j 0)) v 64)) (s .over)
   where
-    go : (left < rankOf (bit (getD ws j 0)) v 64) ⊎ (rankOf (bit (getD ws j 0)) v 64 ≤ left) → (j + 1 ≡ 8) ⊎ (k < rankOf (bitAt ws) v (64 * (j + 1)))
+    full : (j < i) ⊎ (i ≤ j) → i ≡ j
+    full (inl l) = let up : 64 * (j + 1) ≤ 64 * (i + 1) = omega arith in absurd (omega (arith, h .above l, ones-mono (holds f v) up, e, w .0))
+    full (inr l) = omega (arith, h .within)
+passed-more f v k i j passed sum m rest e h (inr w) =
+    record {
+      within = omega (arith, h .within, w .1 .0);
+      count = w .1 .1 ∙ h .count ∙ ap (λ (n : ℕ). rankOf f v (64 * n)) (sym (w .1 .0));
+      low = omega (arith, h .low, w .1 .1);
+      above = (λ l. omega (arith, over (lt-or j i), ap (λ (n : ℕ). rankOf f v (64 * (n + 1))) (w .1 .0)));
+    }
+  where
+    over : (j < i) ⊎ (i ≤ j) → k < rankOf f v (64 * (j + 1))
+    over (inl l) = h .above l
+    over (inr l) = let s : i ≡ j = omega (arith, h .within) in omega (arith, w .0, e, ap (λ (n : ℕ). rankOf f v (64 * (n + 1))) s)
+
+-- of eight words seven are counted: the position in word j gives that in the block, and so does the end
+pub passed-place : (ws : List ℕ) (v k j passed left r : ℕ) → Passed (bitAt ws) v k 7 j passed → passed + left ≡ k → r ≡ selectIn 64 (getD ws j 0) v left
+    → (r ≤ 64) × (64 * j + r ≡ placeIn 512 (selectOf (bitAt ws) 512 v k))
+passed-place ws v k j passed left r h el e = go (lt-or left (rankOf (bit (getD ws j 0)) v 64)) (lt-or j 7)
+  where
+    go : (left < rankOf (bit (getD ws j 0)) v 64) ⊎ (rankOf (bit (getD ws j 0)) v 64 ≤ left) → (j < 7) ⊎ (7 ≤ j)
         → (r ≤ 64) × (64 * j + r ≡ placeIn 512 (selectOf (bitAt ws) 512 v k))
     go (inl l) o =
-        let w = part-select (bitAt ws) (bit (getD ws j 0)) (64 * j) 64 512 v k left r (λ p m. sym (word-bit ws j p m)) (omega (arith, s .within)) (s .under) l e in
+        let under : rankOf (bitAt ws) v (64 * j) + left ≡ k = omega (arith, h .count) in
+        let w = part-select (bitAt ws) (bit (getD ws j 0)) (64 * j) 64 512 v k left r (λ p m. sym (word-bit ws j p m)) (omega (arith, h .within)) under l e in
         (omega (arith, w .0), w .1)
-    go (inr l) (inl o) =
+    go (inr l) (inl o) = absurd (omega (arith, word-rank ws v j, h .count, h .above o))
+    go (inr l) (inr o) =
         let er : r ≡ 64 = e ∙ placeIn-none (bit (getD ws j 0)) 64 v left l in
-        let top : 64 * (j + 1) ≡ 512 = omega arith in
-        let few : rankOf (bitAt ws) v 512 ≤ k = omega (arith, word-rank ws v j (j + 1) refl, s .under, ap (rankOf (bitAt ws) v) top) in
+        let top : 64 * (j + 1) ≡ 512 = omega (arith, h .within) in
+        let few : rankOf (bitAt ws) v 512 ≤ k = omega (arith, word-rank ws v j, h .count, ap (rankOf (bitAt ws) v) top) in
         let end : 64 * j + r ≡ 512 = omega arith in
         (omega arith, end ∙ sym (placeIn-none (bitAt ws) 512 v k few))
-    go (inr l) (inr o) = absurd (omega (arith, word-rank ws v j (j + 1) refl, s .under, o))

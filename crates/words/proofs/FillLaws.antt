@@ -12,7 +12,7 @@ use lib.Seq.{getD-set-same, getD-set-other, drop-length}
 use borrow.Author.Fill.{fill-none, fill-more}
 use Rattle.words.specs.Bits.{bit, bitAt, ones}
 use Rattle.words.specs.Working.{Written, RangePut}
-use Rattle.words.proofs.Sums.{lt-or, ones-range}
+use Rattle.words.proofs.Sums.{lt-or}
 use Rattle.words.proofs.WordLaws.{word-bit}
 
 -- ---- ranges
@@ -98,14 +98,6 @@ whole-put ws k b r h x =
     outside : (q : ℕ) → q < 64 → (q < 0) ⊎ (64 ≤ q) → ⊥
     outside q l (inl u) = omega arith
     outside q l (inr u) = omega arith
-
--- ---- the ones
-
--- they move by the range: those of ws between a and e go, and e - a times b come
-pub range-ones : (ws vs : List ℕ) (a e b n : ℕ) → RangePut ws a e b vs → a ≤ e → e ≤ n
-    → ones (bitAt vs) n + ones (bitAt ws) e ≡ ones (bitAt ws) n + (ones (bitAt ws) a + (e - a) * b)
-range-ones ws vs a e b n x la le =
-    ones-range (bitAt vs) (bitAt ws) a e n b la le (x .under) (x .inside) (λ p l u. x .over p l)
 
 -- ---- a list whose elements become 0
 

@@ -6,24 +6,22 @@ use mathlib.Core.Logic.{_⊎_, inl, inr}
 use mathlib.Core.List.{List}
 use mathlib.Core.Option.{some, none}
 use Prim.Native.Nat.{ℕ, zero, suc, _+_, _-_, _*_, _/_, _%_, _^_, _≤_, _<_, zero-le}
-use native.Mathlib.Nat.{le-refl, lt-suc-self, div-lt-iff-lt-mul, one-mul}
+use native.Mathlib.Nat.{le-refl, div-one}
 use native.Mathlib.Numerals.{one-add}
 use native.Mathlib.Decide.{ℕ-discrete}
 use native.Mathlib.Omega.{arith}
-use lib.Arith.{lt-one}
 use lib.Dec.{eqb, leb}
 use lib.ListN.{getD}
-use lib.Pow.{pow-pos, shr-lt}
+use lib.Count.{leadingZeros, leading-top, trailingZeros, under}
 use borrow.Author.Tests.{eqb-true, eq-eqb, leb-true, le-leb}
 use Rattle.words.specs.Bits.{bit, bitAt, ones}
-use Rattle.words.specs.Strip.{holds, rankOf, successorOf, predecessorOf}
-use Rattle.words.specs.Words.{selectIn}
+use Rattle.words.specs.Strip.{holds, successorOf, predecessorOf}
 use Rattle.words.specs.Working.{Written, Matched, FirstFrom, LastBefore}
 use Rattle.words.proofs.BoolLaws.{and-intro, and-first, and-second}
-use Rattle.words.proofs.Sums.{lt-or, ones-suc, ones-mono, rank-one}
-use Rattle.words.proofs.BitLaws.{bit-le, zero-bit}
+use Rattle.words.proofs.Sums.{lt-or, rank-one}
+use Rattle.words.proofs.BitLaws.{bit-le, zero-bit, bit-shr, bit-high, bit-top}
 use Rattle.words.proofs.WordLaws.{holds-yes, holds-no, word-bit}
-use Rattle.words.proofs.SearchLaws.{least-at, least-none, greatest-at, greatest-none, Place, placeIn-place, rank-ones}
+use Rattle.words.proofs.SearchLaws.{least-at, least-none, greatest-at, greatest-none}
 
 -- none of the positions from i to e - 1 holds v
 abbrev pub Clear : (ℕ → ℕ) → ℕ → ℕ → ℕ → Type 0
@@ -111,52 +109,65 @@ back-end f v i h = record { within = zero-le; clear = h; hit = (λ q e. absurd (
 
 -- ---- one word
 
--- the first of v
-pub place-first : (f : ℕ → ℕ) (n v r : ℕ) → Place f n v 0 r → FirstFrom f n v 0 r
-place-first f n v r h =
-    record {
-      start = zero-le;
-      within = omega (arith, h .below);
-      clear = (λ p a l e. omega (arith, rank-one (holds f v) p r (holds-yes f v p e) l, h .rank));
-      hit = (λ l. h .held);
-    }
-
--- the last of v
-pub place-last : (f : ℕ → ℕ) (n v k r : ℕ) → Place f n v k r → rankOf f v n ≤ k + 1 → LastBefore f v n (r + 1)
-place-last f n v k r h t =
-    record {
-      within = omega (arith, h .below);
-      clear = (λ p a l e.
-          omega (
-            arith,
-            rank-one (holds f v) r p (holds-yes f v r (h .held)) (omega arith),
-            rank-one (holds f v) p n (holds-yes f v p e) l,
-            h .rank,
-          ));
-      hit = (λ q e. let s : q ≡ r = omega arith in ap f s ∙ h .held);
-    }
-
--- a number with no one among its bits is 0
-zero-bits : (k x : ℕ) → x < 2 ^ k → ((p : ℕ) → p < k → bit x p ≡ 0) → x ≡ 0
-zero-bits zero x h z = lt-one h
-zero-bits (suc k) x h z =
-    let top : x / 2 ^ k < 2 = shr-lt 1 k (subst (λ (m : ℕ). x < 2 ^ m) (sym (one-add k)) h) in
-    let e : x / 2 ^ k < 1 = omega (arith, z k (lt-suc-self k)) in
-    let low : x < 2 ^ k = subst (λ (m : ℕ). x < m) (one-mul (2 ^ k)) (div-lt-iff-lt-mul (pow-pos k) .0 e) in
-    zero-bits k x low (λ p l. z p (omega arith))
+-- a number of k bits that is not 0 has a highest one, which the machine's count of leading zeros tells
+top-one : (k x : ℕ) → x < 2 ^ k → (x ≡ 0 → ⊥) → (j : ℕ) × (leadingZeros k x + suc j ≡ k) × (bit x j ≡ 1) × (x < 2 ^ suc j)
+top-one k x h n =
+    let t = leading-top k x (omega (arith, n)) h in
+    (t .0, t .1, bit-top x (t .0) (t .2) (t .3), t .3)
 
 -- a word other than 0 has a one
 pub some-one : (x : ℕ) → x < 2 ^ 64 → (x ≡ 0 → ⊥) → 0 < ones (bit x) 64
-some-one x h n = go (lt-or 0 (ones (bit x) 64))
-  where
-    go : (0 < ones (bit x) 64) ⊎ (ones (bit x) 64 ≤ 0) → 0 < ones (bit x) 64
-    go (inl l) = l
-    go (inr l) = absurd (n (zero-bits 64 x h (λ p u. omega (arith, ones-suc (bit x) p, ones-mono (bit x) u))))
+some-one x h n =
+    let t = top-one 64 x h n in
+    omega (arith, rank-one (bit x) (t .0) 64 (t .2) (omega (arith, t .1)))
 
--- select in a word, below the number of its ones
-pub one-place : (x k r : ℕ) → k < ones (bit x) 64 → r ≡ selectIn 64 x 1 k → Place (bit x) 64 1 k r
-one-place x k r l e =
-    subst (λ (p : ℕ). Place (bit x) 64 1 k p) (sym e) (placeIn-place (bit x) 64 1 k (omega (arith, rank-ones (bit x) 64 (bit-le x))))
+-- k less the leading zeros: one past the last one
+pub leading-last : (k x : ℕ) → x < 2 ^ k → (x ≡ 0 → ⊥) → (0 < k - leadingZeros k x) × LastBefore (bit x) 1 k (k - leadingZeros k x)
+leading-last k x h n =
+    let t = top-one k x h n in (
+      omega (arith, t .1),
+      record {
+        within = omega arith;
+        clear = (λ p l u o. omega (arith, bit-high x (suc (t .0)) p (t .3) (omega (arith, t .1))));
+        hit = (λ q e. let s : q ≡ t .0 = omega (arith, t .1) in ap (bit x) s ∙ t .2);
+      },
+    )
+
+-- the machine's count of trailing zeros among the low k bits: the first one, or k
+trailing-from : (k x : ℕ) → FirstFrom (bit x) k 1 0 (trailingZeros k x)
+unfolding trailingZeros
+trailing-from zero x = onward-end (bit x) 0 1 0 zero-le (λ p l u e. omega arith)
+trailing-from (suc k) x = go (x % 2) (ap (λ (n : ℕ). n % 2) (div-one x)) (trailing-from k (x / 2))
+  where
+    half : (p : ℕ) → bit (x / 2) p ≡ bit x (suc p)
+    half p = bit-shr x 1 p ∙ ap (bit x) (one-add p)
+
+    zeros : (t : ℕ) → bit x 0 ≡ 0 → Clear (bit (x / 2)) 1 0 t → Clear (bit x) 1 0 (suc t)
+    zeros t z h zero l u e = omega arith
+    zeros t z h (suc p) l u e = h p zero-le (omega arith) (half p ∙ e)
+
+    go : (d : ℕ) → bit x 0 ≡ d → FirstFrom (bit (x / 2)) k 1 0 (trailingZeros k (x / 2))
+        → FirstFrom (bit x) (suc k) 1 0 (under d (trailingZeros k (x / 2)))
+    go zero e o =
+        let t : ℕ = trailingZeros k (x / 2) in
+        record {
+          start = zero-le;
+          within = omega (arith, o .within);
+          clear = zeros t e (o .clear);
+          hit = (λ l. sym (half t) ∙ o .hit (omega arith));
+        }
+    go (suc d) e o =
+        record { start = zero-le; within = zero-le; clear = (λ p l u h. omega arith); hit = (λ l. omega (arith, bit-le x 0)) }
+
+-- of a number of k bits that is not 0: the first one
+pub trailing-first : (k x : ℕ) → x < 2 ^ k → (x ≡ 0 → ⊥) → (trailingZeros k x < k) × FirstFrom (bit x) k 1 0 (trailingZeros k x)
+trailing-first k x h n = (go (lt-or (trailingZeros k x) k), trailing-from k x)
+  where
+    go : (trailingZeros k x < k) ⊎ (k ≤ trailingZeros k x) → trailingZeros k x < k
+    go (inl l) = l
+    go (inr l) =
+        let t = top-one k x h n in
+        absurd (trailing-from k x .clear (t .0) zero-le (omega (arith, t .1)) (t .2))
 
 -- ---- a word among words
 

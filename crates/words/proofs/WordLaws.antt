@@ -14,7 +14,7 @@ use Rattle.words.specs.Bits.{bit, bitAt, ones}
 use Rattle.words.specs.Strip.{holds}
 use Rattle.words.specs.Working.{Written, Matched}
 use Rattle.words.proofs.Sums.{lt-or, ones-more, ones-range, part-ones, part-at}
-use Rattle.words.proofs.BitLaws.{bit-lt, bit-le, zero-bit, bit-xor, bit-and, bit-or, bit-not, bit-high, differ-one, differ-zero, mask, mask-in, mask-below, mask-above, mask-lt}
+use Rattle.words.proofs.BitLaws.{bit-lt, bit-le, zero-bit, bit-xor, bit-and, bit-or, bit-not, bit-high, differ-one, differ-zero, mask, mask-in, mask-below, mask-above, mask-lt, mask-one}
 
 -- ---- bits that hold a value
 pub holds-yes : (f : ℕ → ℕ) (v p : ℕ) → f p ≡ v → holds f v p ≡ 1
@@ -83,7 +83,7 @@ written-clear x n a hx h =
 
 pub written-flip : (x i : ℕ) → Written x i (i + 1) (1 - bit x i) (bitXor x (2 ^ i))
 written-flip x i =
-    let m : 2 ^ i ≡ mask 1 i = sym (one-mul (2 ^ i)) in
+    let m : 2 ^ i ≡ mask 1 i = sym (mask-one i) in
     let flipped : (p b : ℕ) → bit (mask 1 i) p ≡ b → bit (bitXor x (2 ^ i)) p ≡ differ (bit x p) b =
     (λ p b e. bit-xor x (2 ^ i) p ∙ ap (λ (n : ℕ). differ (bit x p) (bit n p)) m ∙ ap (differ (bit x p)) e) in
     record {

@@ -60,7 +60,8 @@ pub fn put_bit(x: u64, i: usize, v: u64) -> u64
     requires { ⌜ (i < 64) × (v ≤ 1) ⌝ }
     ensures { λ r. ⌜ Written x i (i + 1) v r ⌝ }
 {
-    put_range(x, i, i + 1, v)
+    let mask = 1u64 << i;
+    if v == 1 { x | mask } else { x & !mask }
 }
 
 // The word whose ones are the bits of x that equal v.

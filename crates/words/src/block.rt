@@ -1,6 +1,6 @@
 // A block: 512 bits, eight words.
 ghost use mathlib.Core.Path.{_≡_};
-ghost use Prim.Native.Nat.{_+_, _-_, _*_, _^_, _≤_, min};
+ghost use Prim.Native.Nat.{_-_, _*_, _^_, _≤_, min};
 ghost use lib.ListN.{length};
 ghost use Rattle.words.specs.Bits.{bit, bitAt, ones};
 ghost use Rattle.words.specs.Strip.{rankOf, selectOf};
@@ -53,35 +53,21 @@ fn word_count(x: u64, v: u64) -> usize
     ones_of(matches(x, v))
 }
 
-// The number of v in word j and the next.
-fn pair_count(block: &[u64], j: usize, v: u64) -> usize
-    requires { ⌜ (j + 2 ≤ length (now block)) × (v ≤ 1) ⌝ }
-    ensures { λ r. ⌜ (r ≤ 128) × (rankOf (bitAt (now (block .entry))) v (64 * j) + r ≡ rankOf (bitAt (now (block .entry))) v (64 * (j + 2))) ⌝ }
-{
-    word_count(block[j], v) + word_count(block[j + 1], v)
-}
-
-// The position of the k-th v in a block, k from 0, or 512 where it has too few: the four, the two and the one word that hold it, by halving.
+// The position of the k-th v in a block, k from 0, or 512 where it has too few: the word that holds it, then the place there.
+// The word is found by the running counts of v, none of which waits for a comparison.
 pub fn block_select(block: &[u64], v: u64, k: usize) -> usize
     requires { ⌜ (length (now block) ≡ 8) × (v ≤ 1) ⌝ }
     ensures { λ r. ⌜ r ≡ placeIn 512 (selectOf (bitAt (now (block .entry))) 512 v k) ⌝ }
 {
+    let mut sum: usize = 0;
+    let mut passed: usize = 0;
     let mut j: usize = 0;
-    let mut left = k;
-    let four = pair_count(block, 0, v) + pair_count(block, 2, v);
-    if four <= left {
-        j += 4;
-        left -= four;
+    for i in 0..7 {
+        sum += word_count(block[i], v);
+        if sum <= k {
+            j += 1;
+            passed = sum;
+        }
     }
-    let two = pair_count(block, j, v);
-    if two <= left {
-        j += 2;
-        left -= two;
-    }
-    let one = word_count(block[j], v);
-    if one <= left {
-        j += 1;
-        left -= one;
-    }
-    64 * j + select_value(block[j], v, left)
+    64 * j + select_value(block[j], v, k - passed)
 }

@@ -1,20 +1,18 @@
 // The nearest position that holds a value, on either side, over a list of words.
 ghost use mathlib.Core.Path.{_≡_};
-ghost use Prim.Native.Nat.{ℕ, _+_, _*_, _<_, _≤_};
+ghost use Prim.Native.Nat.{_+_, _*_, _<_, _≤_};
 ghost use lib.ListN.{length};
 ghost use Rattle.words.specs.Bits.{bit, bitAt};
 ghost use Rattle.words.specs.Working.{FirstFrom, LastBefore};
 use super::bits::matches;
-use super::bits::ones_of;
 use super::bits::put_range;
-use super::select::select_in_word;
 
 // The lowest one of a word that has one.
 fn lowest_one(x: u64) -> usize
     requires { ⌜ (x ≡ 0 → ⊥) ⌝ }
     ensures { λ r. ⌜ (r < 64) × FirstFrom (bit x) 64 1 0 r ⌝ }
 {
-    select_in_word(x, 0)
+    u64::trailing_zeros(x) as usize
 }
 
 // One past the highest one of a word that has one.
@@ -22,7 +20,7 @@ fn past_highest_one(x: u64) -> usize
     requires { ⌜ (x ≡ 0 → ⊥) ⌝ }
     ensures { λ r. ⌜ (0 < r) × LastBefore (bit x) 1 64 r ⌝ }
 {
-    select_in_word(x, ones_of(x) - 1) + 1
+    64 - (u64::leading_zeros(x) as usize)
 }
 
 // The smallest position in the words from word `from` to word `to` - 1 that holds v, or the end of these words.

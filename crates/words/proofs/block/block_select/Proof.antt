@@ -1,126 +1,137 @@
--- `words::block::block_select` meets its contract: after each test the words from j on hold the k-th v, four of them, then two, then one, or are the
--- last. Assumes nothing.
-use mathlib.Core.Path.{_≡_, refl}
+-- `words::block::block_select` meets its contract. The invariant: of the first i words, which hold `sum` of v, those before word j are passed, with
+-- `passed` of v. Assumes nothing.
+use mathlib.Core.Path.{_≡_, subst}
 use mathlib.Core.Logic.{⊎-elim, inl, inr}
-use Prim.Native.Nat.{ℕ, _+_, _*_, _≤_}
+use Prim.Native.Nat.{ℕ, _+_, _-_, _*_, _≤_}
 use native.Mathlib.Omega.{arith}
 use borrow.Author.Needs.{needs}
 use Rattle.words.specs.Bits.{bitAt}
-use Rattle.words.specs.Strip.{rankOf, selectOf}
+use Rattle.words.specs.Strip.{holds, rankOf, selectOf}
 use Rattle.words.specs.Words.{placeIn}
-use Rattle.words.proofs.BlockSelectLaws.{Span, word-rank, span-all, span-half, span-word}
+use Rattle.words.proofs.Sums.{ones-zero}
+use Rattle.words.proofs.SearchLaws.{rank-le}
+use Rattle.words.proofs.BlockSelectLaws.{word-rank, Passed, passed-none, passed-more, passed-place}
 use Rattle.words.proofs.block.block_select.Statement.{statement}
 use Rattle.words.proofs.block.block_select.Tie as tie
 
--- the words j to e - 1 hold the k-th v of the lent block
-abbrev In : tie.Start → ℕ → ℕ → ℕ → Type 0
-In s j e left = Span (bitAt (s .args .block .now)) (s .args .v) (s .args .k) j e left
+abbrev Inv-loop : tie.InvT-loop
+Inv-loop block v k sum₀ passed₀ j₀ i₀ sum passed j i = (i ≤ 7) × (sum ≡ rankOf (bitAt block) v (64 * i)) × Passed (bitAt block) v k i j passed
 
-pair-count-requires : tie.Need-pair-count-requires
-pair-count-requires c κs = search needs
+abbrev μ-loop : tie.MeasureT-loop
+μ-loop block v k sum₀ passed₀ j₀ i₀ sum passed j i = 7 - i
 
-pair-count-requires-2 : tie.Need-pair-count-requires-2
-pair-count-requires-2 c κs = search needs
+loop-holds : tie.Need-loop-holds Inv-loop μ-loop
+loop-holds c =
+    let a = c .before .args in
+    let f : ℕ → ℕ = bitAt (a .block .now) in
+    (omega arith, omega (arith, ones-zero (holds f (a .v))), passed-none f (a .v) (a .k))
 
-add-four : tie.Need-add-four
-add-four c = search needs
+mul-word-count : tie.Need-mul-word-count Inv-loop μ-loop
+mul-word-count c = omega arith
 
-add-j : tie.Need-add-j
-add-j c = search needs
+shared-slice-read-word-count : tie.Need-shared-slice-read-word-count Inv-loop μ-loop
+shared-slice-read-word-count c = omega arith
 
--- four words
-four : (c : tie.Joined1) → In (c .before .before .before .before) (c .if1 .j) (c .if1 .j + 4) (c .if1 .left)
-four c =
-    let s = c .before .before .before .before .args in
-    let p = c .before .before .pair-count in
-    let q = c .before .pair-count2 in
-    span-half (bitAt (s .block .now)) (s .v) (s .k) 0 4 (p .result + q .result) (s .k) (c .if1 .j) (c .if1 .left) (omega (arith, p .ensures .1, q .ensures .1))
-    (span-all (bitAt (s .block .now)) (s .v) (s .k))
-    (⊎-elim (λ w. inl (w .0 .taken, (w .1, w .2))) (λ w. inr (w .0 .left, (w .1, w .2))) (c .if1 .came))
-
-pair-count-requires-3 : tie.Need-pair-count-requires-3
-pair-count-requires-3 c κs = omega (arith, four c .within)
-
-add-j-2 : tie.Need-add-j-2
-add-j-2 c = omega (arith, four (c .before .before .before) .within)
-
--- two words
-two : (c : tie.Joined2) → In (c .before .before .before .before .before .before) (c .if2 .j) (c .if2 .j + 2) (c .if2 .left)
-two c =
-    let j = c .before .before in
-    let s = j .before .before .before .before .args in
-    let p = c .before .pair-count3 in
-    span-half (bitAt (s .block .now)) (s .v) (s .k) (j .if1 .j) 2 (p .result) (j .if1 .left) (c .if2 .j) (c .if2 .left) (p .ensures .1) (four j)
-    (⊎-elim (λ w. inl (w .0 .taken, (w .3, w .4))) (λ w. inr (w .0 .left, (w .1, w .2))) (c .if2 .came))
-
-mul-word-count : tie.Need-mul-word-count
-mul-word-count c = omega (arith, two (c .before) .within)
-
-shared-slice-read-word-count : tie.Need-shared-slice-read-word-count
-shared-slice-read-word-count c = omega (arith, two (c .before .before) .within)
-
-word-count-requires : tie.Need-word-count-requires
+word-count-requires : tie.Need-word-count-requires Inv-loop μ-loop
 word-count-requires c κs = search needs
 
-add-j-3 : tie.Need-add-j-3
-add-j-3 c = omega (arith, two (c .before .before .before .before) .within)
+-- the v with those of word i
+next : (c : tie.After-word-count Inv-loop μ-loop)
+    → let a = c .before .before .before .before .before .args in
+    let l = c .before .before .before .loop in
+    l .sum + c .word-count .result ≡ rankOf (bitAt (a .block .now)) (a .v) (64 * (l .i + 1))
+next c =
+    let a = c .before .before .before .before .before .args in
+    let l = c .before .before .before .loop in
+    omega (arith, l .inv .1, c .word-count .ensures .1, word-rank (a .block .now) (a .v) (l .i))
 
--- one word
-one : (c : tie.Joined3) → In (c .before .before .before .before .before .before .before .before .before .before) (c .if3 .j) (c .if3 .j + 1) (c .if3 .left)
-one c =
-    let j = c .before .before .before .before in
-    let s = j .before .before .before .before .before .before .args in
-    let p = c .before .word-count in
-    let e : rankOf (bitAt (s .block .now)) (s .v) (64 * j .if2 .j) + p .result ≡ rankOf (bitAt (s .block .now)) (s .v) (64 * (j .if2 .j + 1)) =
-    omega (arith, word-rank (s .block .now) (s .v) (j .if2 .j) (j .if2 .j + 1) refl, p .ensures .1) in
-    span-half (bitAt (s .block .now)) (s .v) (s .k) (j .if2 .j) 1 (p .result) (j .if2 .left) (c .if3 .j) (c .if3 .left) e (two j)
-    (⊎-elim (λ w. inl (w .0 .taken, (w .2, w .3))) (λ w. inr (w .0 .left, (w .1, w .2))) (c .if3 .came))
+add-sum : tie.Need-add-sum Inv-loop μ-loop
+add-sum c =
+    let a = c .before .before .before .before .before .args in
+    let l = c .before .before .before .loop in
+    omega (arith, l .inv .1, c .word-count .ensures .0, rank-le (bitAt (a .block .now)) (a .v) (64 * l .i))
 
-mul-result : tie.Need-mul-result
-mul-result c = omega (arith, one (c .before) .within)
+add-j : tie.Need-add-j Inv-loop μ-loop
+add-j c = omega (arith, c .before .before .before .before .loop .inv .2 .within)
 
-mul-select-value : tie.Need-mul-select-value
-mul-select-value c = omega (arith, one (c .before) .within)
+add-i : tie.Need-add-i Inv-loop μ-loop
+add-i c = omega arith
 
-shared-slice-read-select-value : tie.Need-shared-slice-read-select-value
-shared-slice-read-select-value c = omega (arith, one (c .before .before) .within)
+loop-less : tie.Need-loop-less Inv-loop μ-loop
+loop-less c = omega arith
 
-select-value-requires : tie.Need-select-value-requires
+loop-again : tie.Need-loop-again Inv-loop μ-loop
+loop-again c =
+    let a = c .before .before .before .before .before .before .args in
+    let l = c .before .before .before .before .loop in (
+      omega arith,
+      next (c .before),
+      passed-more (bitAt (a .block .now)) (a .v) (a .k) (l .i) (l .j) (l .passed) (l .sum + c .before .word-count .result) (c .if1 .j) (c .if1 .passed)
+          (next (c .before)) (l .inv .2)
+          (⊎-elim (λ w. inl (w .0 .taken, (w .2, w .1))) (λ w. inr (w .0 .left, (w .2, w .1))) (c .if1 .came)),
+    )
+
+-- seven words are counted
+seven : (c : tie.After-loop Inv-loop μ-loop)
+    → let a = c .before .before .before .args in
+    Passed (bitAt (a .block .now)) (a .v) (a .k) 7 (c .before .loop .j) (c .before .loop .passed)
+seven c =
+    let a = c .before .before .before .args in
+    let l = c .before .loop in
+    let e : l .i ≡ 7 = omega arith in
+    subst (λ (i : ℕ). Passed (bitAt (a .block .now)) (a .v) (a .k) i (l .j) (l .passed)) e (l .inv .2)
+
+mul-result : tie.Need-mul-result Inv-loop μ-loop
+mul-result c = omega (arith, seven c .within)
+
+mul-select-value : tie.Need-mul-select-value Inv-loop μ-loop
+mul-select-value c = omega (arith, seven c .within)
+
+shared-slice-read-select-value : tie.Need-shared-slice-read-select-value Inv-loop μ-loop
+shared-slice-read-select-value c = omega (arith, seven (c .before) .within)
+
+sub-select-value : tie.Need-sub-select-value Inv-loop μ-loop
+sub-select-value c = seven (c .before) .low
+
+select-value-requires : tie.Need-select-value-requires Inv-loop μ-loop
 select-value-requires c κs = search needs
 
 -- the position in that word
-place : (c : tie.After-select-value)
-    → let s = c .before .before .before .before .before .before .before .before .before .before .before .before .before .args in
-    let w = c .before .before .before .if3 in
-    (c .select-value .result ≤ 64) × (64 * w .j + c .select-value .result ≡ placeIn 512 (selectOf (bitAt (s .block .now)) 512 (s .v) (s .k)))
+place : (c : tie.After-select-value Inv-loop μ-loop)
+    → let a = c .before .before .before .before .before .args in
+    let r = c .select-value .result in
+    (r ≤ 64) × (64 * c .before .before .before .loop .j + r ≡ placeIn 512 (selectOf (bitAt (a .block .now)) 512 (a .v) (a .k)))
 place c =
-    let s = c .before .before .before .before .before .before .before .before .before .before .before .before .before .args in
-    let w = c .before .before .before .if3 in
-    span-word (s .block .now) (s .v) (s .k) (w .j) (w .left) (c .select-value .result) (one (c .before .before .before)) (c .select-value .ensures)
+    let a = c .before .before .before .before .before .args in
+    let l = c .before .before .before .loop in
+    let h = seven (c .before .before) in
+    passed-place (a .block .now) (a .v) (a .k) (l .j) (l .passed) (a .k - l .passed) (c .select-value .result) h (omega (arith, h .low)) (c .select-value .ensures)
 
-add-result : tie.Need-add-result
-add-result c = omega (arith, place c .0, one (c .before .before .before) .within)
+add-result : tie.Need-add-result Inv-loop μ-loop
+add-result c = omega (arith, place c .0, seven (c .before .before) .within)
 
-returns : tie.Need-returns
+returns : tie.Need-returns Inv-loop μ-loop
 returns c = place c .1
 
 pub block-select-spec : {M : Type 1} → statement M
 block-select-spec =
     tie.close
     (tie.spec
-    pair-count-requires
-    pair-count-requires-2
-    add-four
-    add-j
-    pair-count-requires-3
-    add-j-2
+    Inv-loop
+    μ-loop
+    loop-holds
     mul-word-count
     shared-slice-read-word-count
     word-count-requires
-    add-j-3
+    add-sum
+    add-j
+    add-i
+    loop-less
+    loop-again
     mul-result
     mul-select-value
     shared-slice-read-select-value
+    sub-select-value
     select-value-requires
     add-result
     returns)
