@@ -1,5 +1,5 @@
 -- A record that fits is the one laid afresh from its strip: lengths, elements, and both ways between the two. Assumes nothing.
-use mathlib.Core.Path.{_≡_, refl, sym, ap, ap₂, _∙_, subst, fun-ext}
+use mathlib.Core.Path.{_≡_, refl, sym, ap, ap₂, _∙_, fun-ext}
 use mathlib.Core.Logic.{_⊎_, inl, inr}
 use mathlib.Core.List.{List, [], _∷_, _++_}
 use Prim.Native.Nat.{ℕ, zero, suc, _+_, _-_, _*_, _/_, _%_, _^_, _≤_, _<_}
@@ -133,10 +133,6 @@ module _ (c : ℕ) (s : List ℕ) (whole : c % 512 ≡ 0) (within : length s ≤
         clean = (λ p l. bitAt-packed p ∙ List·getD-eq-default s 0 {n = p} l);
         right = (λ t j i a b d e. counters-at c s t j i a b d e ∙ counter-ext (cell s) (bitAt (packedWords c s)) t j i (λ p. sym (bitAt-packed p)));
       }
-
-  -- under any handle of this capacity and length
-  pub built-fits-under : (h : Handle) → h .capacity ≡ c → h .length ≡ length s → Fits h (packedWords c s) (builtCounters c s)
-  built-fits-under h a b = subst (λ (k : Handle). Fits k (packedWords c s) (builtCounters c s)) (sym (ap₂ handle a b)) built-fits
 
 -- ---- a record that fits
 -- its words' bits are those of its strip, at every position

@@ -1,19 +1,19 @@
--- The counters that count a stroke moved: eight lanes, one node, level by level. Assumes nothing.
+-- The counters that count a stroke moved: eight lanes by their steps, one node, level by level. Assumes nothing.
 use mathlib.Core.Path.{_≡_, refl, sym, ap, ap₂, _∙_}
 use mathlib.Core.Bool.{Bool, true, false, cond, _&&_}
-use mathlib.Core.List.{List}
+use mathlib.Core.List.{List, _++_}
 use mathlib.Core.Logic.{_⊎_, inl, inr}
-use Prim.Native.Nat.{ℕ, _+_, _-_, _*_, _/_, _%_, _^_, _≤_, _<_}
+use Prim.Native.Nat.{ℕ, suc, _+_, _-_, _*_, _/_, _%_, _^_, _≤_, _<_}
 use native.Mathlib.Numerals.{add-one}
 use native.Mathlib.Omega.{arith}
 use lib.Dec.{leb, ltb}
-use lib.ListN.{length, getD, take, drop, set, length-set}
-use lib.Seq.{getD-set-other}
+use lib.ListN.{length, getD, take, drop, set, replicate, length-set, getD-replicate, List·getD-append}
+use lib.Seq.{getD-set-other, getD-append-add}
 use borrow.Author.Tests.{le-leb, lt-leb}
 use Rattle.words.specs.Bits.{ones}
-use Rattle.words.proofs.Sums.{lt-or, ones-zero, ones-more, set-more}
+use Rattle.words.proofs.Sums.{lt-or, ones-zero, ones-more, part-at, set-more}
 use Rattle.counters.specs.Tree.{nodes, height, fromChild, toChild, counterCount, indexOf, childOf, slot, counts, changeCount}
-use Rattle.counters.specs.Working.{movedBy, countsChild, PathRaised}
+use Rattle.counters.specs.Working.{movedBy, countsChild, Steps, PathRaised}
 use Rattle.counters.proofs.TreeLaws.{nodes-le, childOf-one, childOf-suc, from-summary, to-summary, from-key, to-key, from-to, start, index-is, Level, level-blocks, level-next, level-room, total-mono, height-le}
 use Rattle.counters.proofs.FlipLaws.{between-in, between-before, between-past, child-lt, counts-before, counts-past}
 use Rattle.counters.proofs.SpliceLaws.{splice, splice-length, splice-below, splice-above, splice-each}
@@ -28,42 +28,70 @@ moved-sum false d x h = omega arith
 pub moved-test : {b b' : Bool} (d x : ℕ) → b ≡ b' → movedBy b d x ≡ movedBy b' d x
 moved-test d x e = ap (λ (b : Bool). movedBy b d x) e
 
--- ys is xs with those numbers before i moved by d that the test names
-pub record Lanes (test : ℕ → Bool) (d : ℕ) (xs : List ℕ) (i : ℕ) (ys : List ℕ) : Type 0 where
+-- ys is xs with its step added to each number before i
+pub record Lanes (steps xs : List ℕ) (i : ℕ) (ys : List ℕ) : Type 0 where
   pub long : length ys ≡ length xs
-  pub moved : (k : ℕ) → k < i → getD ys k 0 ≡ movedBy (test k) d (getD xs k 0)
+  pub moved : (k : ℕ) → k < i → getD ys k 0 ≡ (getD xs k 0 + getD steps k 0) % 2 ^ 32
   pub rest : (k : ℕ) → i ≤ k → getD ys k 0 ≡ getD xs k 0
 
 -- none yet
-pub lanes-none : (test : ℕ → Bool) (d : ℕ) (xs : List ℕ) → Lanes test d xs 0 xs
-lanes-none test d xs = record { long = refl; moved = λ k h. absurd (omega arith); rest = λ k h. refl }
+pub lanes-none : (steps xs : List ℕ) → Lanes steps xs 0 xs
+lanes-none steps xs = record { long = refl; moved = λ k h. absurd (omega arith); rest = λ k h. refl }
 
 -- one more
-pub lanes-more : {test : ℕ → Bool} {d : ℕ} {xs : List ℕ} {i : ℕ} {ys : List ℕ} → Lanes test d xs i ys → i < length ys → getD ys i 0 < 2 ^ 32
-    → (e v : ℕ) → e ≡ cond (test i) d 0 → v ≡ (getD ys i 0 + e) % 2 ^ 32 → Lanes test d xs (i + 1) (set ys i v)
-lanes-more {test} {d} {xs} {i} {ys} l h small e v is sum =
+pub lanes-more : {steps xs : List ℕ} {i : ℕ} {ys : List ℕ} → Lanes steps xs i ys → i < length ys
+    → (v : ℕ) → v ≡ (getD ys i 0 + getD steps i 0) % 2 ^ 32 → Lanes steps xs (i + 1) (set ys i v)
+lanes-more {steps} {xs} {i} {ys} l h v sum =
     record {
       long = length-set ys i v ∙ l .long;
-      moved = set-more (λ k. movedBy (test k) d (getD xs k 0)) ys i v h (l .moved) here;
+      moved = set-more (λ k. (getD xs k 0 + getD steps k 0) % 2 ^ 32) ys i v h (l .moved) (sum ∙ ap (λ (x : ℕ). (x + getD steps i 0) % 2 ^ 32) (l .rest i (omega arith)));
       rest = λ k q. getD-set-other ys i k v 0 (λ w. omega arith) ∙ l .rest k (omega arith);
     }
+
+-- ---- eight of sixteen steps
+-- bound and number moved alike
+leb-shift : (k a c b x : ℕ) → b ≡ k + a → x ≡ k + c → leb b x ≡ leb a c
+leb-shift k a c b x e f = go (lt-or c a)
   where
-    here : v ≡ movedBy (test i) d (getD xs i 0)
-    here =
-        sum
-        ∙ ap (λ (x : ℕ). (getD ys i 0 + x) % 2 ^ 32) is
-        ∙ moved-sum (test i) d (getD ys i 0) small
-        ∙ ap (movedBy (test i) d) (l .rest i (omega arith))
+    go : (c < a) ⊎ (a ≤ c) → leb b x ≡ leb a c
+    go (inl l) = lt-leb b x (omega arith) ∙ sym (lt-leb a c l)
+    go (inr l) = le-leb b x (omega arith) ∙ sym (le-leb a c l)
+
+-- the steps as the code writes them
+pub steps-made : (d : ℕ) → Steps d (replicate 8 0 ++ replicate 8 d)
+steps-made d i h = go i h (lt-or i 8)
+  where
+    go : (i : ℕ) → i < 16 → (i < 8) ⊎ (8 ≤ i) → getD (replicate 8 0 ++ replicate 8 d) i 0 ≡ cond (leb 8 i) d 0
+    go i h (inl l) =
+        List·getD-append (replicate 8 0) (replicate 8 d) 0 i l ∙ getD-replicate 8 i 0 0 l ∙ sym (ap (λ (b : Bool). cond b d 0) (lt-leb 8 i l))
+    go i h (inr l) =
+        let e : i ≡ 8 + (i - 8) = omega arith in
+        ap (λ (x : ℕ). getD (replicate 8 0 ++ replicate 8 d) x 0) e
+        ∙ getD-append-add (replicate 8 0) (replicate 8 d) (i - 8) 0
+        ∙ getD-replicate 8 (i - 8) d 0 (omega arith)
+        ∙ sym (ap (λ (b : Bool). cond b d 0) (le-leb 8 i l))
+
+-- a part of eight numbers came back with the eight steps from number s on added: its numbers from g on are moved by d, where s + g is 8
+pub lanes-moved : (d : ℕ) (steps : List ℕ) → Steps d steps → (g s m : ℕ) → 8 ≡ s + g → m ≡ 8 → (xs ys : List ℕ) (a n : ℕ) → n ≡ 8
+    → ((i : ℕ) → getD xs i 0 < 2 ^ 32)
+    → ((i : ℕ) → i < 8 → getD ys i 0 ≡ (getD (take n (drop a xs)) i 0 + getD (take m (drop s steps)) i 0) % 2 ^ 32)
+    → (i : ℕ) → i < 8 → getD ys i 0 ≡ movedBy (leb g i) d (getD (take n (drop a xs)) i 0)
+lanes-moved d steps are g s m turn eight xs ys a n eight' small sums i h =
+    sums i h ∙ ap (λ (y : ℕ). (x + y) % 2 ^ 32) step ∙ moved-sum (leb g i) d x (omega (arith, part-at xs a n 0 i (omega arith), small (a + i)))
+  where
+    x : ℕ
+    x = getD (take n (drop a xs)) i 0
+
+    step : getD (take m (drop s steps)) i 0 ≡ cond (leb g i) d 0
+    step =
+        part-at steps s m 0 i (omega arith)
+        ∙ are (s + i) (omega arith)
+        ∙ ap (λ (b : Bool). cond b d 0) (leb-shift s g i 8 (s + i) turn refl)
 
 -- ---- one node
 -- ends and number moved alike
 between-shift : (k a b c x : ℕ) → x ≡ k + c → (leb (k + a) x && ltb x (k + b)) ≡ (leb a c && ltb c b)
-between-shift k a b c x e = go (lt-or c a) (lt-or c b)
-  where
-    go : (c < a) ⊎ (a ≤ c) → (c < b) ⊎ (b ≤ c) → (leb (k + a) x && ltb x (k + b)) ≡ (leb a c && ltb c b)
-    go (inl l) u = between-before (k + a) (k + b) x (omega arith) ∙ sym (between-before a b c l)
-    go (inr l) (inl u) = between-in (k + a) (k + b) x (omega arith) (omega arith) ∙ sym (between-in a b c l u)
-    go (inr l) (inr u) = between-past (k + a) (k + b) x (omega arith) ∙ sym (between-past a b c u)
+between-shift k a b c x e = ap₂ _&&_ (leb-shift k a c (k + a) x refl e) (leb-shift k (suc c) b (suc x) (k + b) (omega arith) refl)
 
 -- the ends of the children that a key counts
 key-ends : (i : ℕ) → 8 ≤ i → (fromChild i ≡ 8 * ((i - 8) / 8)) × (toChild i ≡ i - 8 + 1)

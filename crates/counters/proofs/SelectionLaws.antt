@@ -13,7 +13,7 @@ use Rattle.words.specs.Bits.{bitAt, ones}
 use Rattle.words.specs.Strip.{holds, rankOf, selectOf}
 use Rattle.words.specs.Words.{placeIn}
 use Rattle.words.specs.Working.{atMost}
-use Rattle.words.proofs.Sums.{lt-or, ones-zero, ones-more, ones-mono}
+use Rattle.words.proofs.Sums.{lt-or, ones-more, ones-mono}
 use Rattle.words.proofs.WordLaws.{block-bit}
 use Rattle.words.proofs.SearchLaws.{Reached, reached, rank-ones, rank-both, rank-part, part-select}
 use Rattle.counters.specs.Tree.{nodes, height, childBits, fromChild, toChild, counterCount}
@@ -35,38 +35,35 @@ times-more a i = mul-add a i 1 ∙ ap (λ (n : ℕ). a * i + n) (mul-one a)
 
 -- ---- one of eight parts
 
--- P m is the v in the first m parts. Of the parts from 1 to i, n end with at most k of v, and there are `last` of v up to the last of these
-pub record Passed (P : ℕ → ℕ) (k i n last : ℕ) : Type 0 where
-  pub reach : n ≡ ones (atMost (λ j. P (j + 1)) k) i
-  pub value : Rising P → P 0 ≡ 0 → last ≡ P n
+-- n of the first i numbers are at most k; one more number, at most k or above it
+pub reach-more : (P : ℕ → ℕ) (k i n m x : ℕ) → x ≡ P i → n ≡ ones (atMost P k) i → ((x ≤ k) × (m ≡ n + 1)) ⊎ ((k < x) × (m ≡ n)) → m ≡ ones (atMost P k) (i + 1)
+reach-more P k i n m x e h (inl w) =
+    let t : atMost P k i ≡ 1 = simp (le-leb (P i) k (subst (λ (y : ℕ). y ≤ k) e (w .0))) in
+    omega (arith, ones-more (atMost P k) i, t, w .1)
+reach-more P k i n m x e h (inr w) =
+    let t : atMost P k i ≡ 0 = simp (lt-leb (P i) k (subst (λ (y : ℕ). k < y) e (w .0))) in
+    omega (arith, ones-more (atMost P k) i, t, w .1)
 
--- at the start
-pub passed-none : (P : ℕ → ℕ) (k : ℕ) → Passed P k 0 0 0
-passed-none P k = record { reach = sym (ones-zero (atMost (λ j. P (j + 1)) k)); value = (λ up z. sym z) }
+-- P m is the v in the first m parts. Of the parts from 1 to i, n end with at most k of v: the first n
+reach-first : (P : ℕ → ℕ) (k i n : ℕ) → Rising P → n ≡ ones (atMost (λ j. P (j + 1)) k) i → Reached (λ j. P (j + 1)) k i n
+reach-first P k i n up h =
+    subst (λ (c : ℕ). Reached (λ j. P (j + 1)) k i c) (sym h) (reached (λ j. P (j + 1)) k i (λ a b l. up (a + 1) (b + 1) (omega arith)))
 
--- one more part, up to which there are x of v: at most k or above it
-pub passed-more : (P : ℕ → ℕ) (k i n m x last next : ℕ) → x ≡ P (i + 1) → Passed P k i n last
-    → ((x ≤ k) × ((m ≡ n + 1) × (next ≡ x))) ⊎ ((k < x) × ((m ≡ n) × (next ≡ last)))
-    → Passed P k (i + 1) m next
-passed-more P k i n m x last next e h (inl w) =
-    let t : atMost (λ j. P (j + 1)) k i ≡ 1 = simp (le-leb (P (i + 1)) k (subst (λ (y : ℕ). y ≤ k) e (w .0))) in
-    record { reach = omega (arith, ones-more (atMost (λ j. P (j + 1)) k) i, t, w .1, h .reach); value = value }
+-- so there are at most k of v in the first n parts
+pub reach-low : (P : ℕ → ℕ) (k i n : ℕ) → Rising P → P 0 ≡ 0 → n ≡ ones (atMost (λ j. P (j + 1)) k) i → P n ≤ k
+reach-low P k i n up z h = low (reach-first P k i n up h .low) (lt-or 0 n)
   where
-    value : Rising P → P 0 ≡ 0 → next ≡ P m
-    value up z =
-        let r : Reached (λ j. P (j + 1)) k i n =
-        subst (λ (c : ℕ). Reached (λ j. P (j + 1)) k i c) (sym (h .reach)) (reached (λ j. P (j + 1)) k i (λ a b l. up (a + 1) (b + 1) (omega arith))) in
-        all r (lt-or n i)
-      where
-        all : Reached (λ j. P (j + 1)) k i n → (n < i) ⊎ (i ≤ n) → next ≡ P m
-        all r (inl l) = absurd (omega (arith, r .above l, up (n + 1) (i + 1) (omega arith), e, w .0))
-        all r (inr l) = let s : i + 1 ≡ m = omega (arith, r .within, w .1) in w .1 .1 ∙ e ∙ ap P s
-passed-more P k i n m x last next e h (inr w) =
-    let t : atMost (λ j. P (j + 1)) k i ≡ 0 = simp (lt-leb (P (i + 1)) k (subst (λ (y : ℕ). k < y) e (w .0))) in
-    record {
-      reach = omega (arith, ones-more (atMost (λ j. P (j + 1)) k) i, t, w .1, h .reach);
-      value = (λ up z. w .1 .1 ∙ h .value up z ∙ ap P (sym (w .1 .0)));
-    }
+    low : ((j : ℕ) → j < n → P (j + 1) ≤ k) → (0 < n) ⊎ (n ≤ 0) → P n ≤ k
+    low each (inl l) = let e : n - 1 + 1 ≡ n = omega arith in subst (λ (m : ℕ). P m ≤ k) e (each (n - 1) (omega arith))
+    low each (inr l) = let e : n ≡ 0 = omega arith in omega (arith, ap P e)
+
+-- seven counters from place `from` on, the first of which has `size` bits and each `size` bits more than the one before: the n-th
+pub nth-valued : (P : ℕ → ℕ) (v size from n : ℕ) (xs : List ℕ) → ((i : ℕ) → i < 7 → Valued v (size * (i + 1)) (getD xs (from + i) 0) (P (i + 1))) → 0 < n → n ≤ 7
+    → Valued v (size * n) (getD xs (from + n - 1) 0) (P n)
+nth-valued P v size from n xs each l h =
+    let e : n - 1 + 1 ≡ n = omega arith in
+    let p : from + (n - 1) ≡ from + n - 1 = omega arith in
+    subst (λ (q : ℕ). Valued v (size * n) (getD xs q 0) (P n)) p (subst (λ (m : ℕ). Valued v (size * m) (getD xs (from + (n - 1)) 0) (P m)) e (each (n - 1) (omega arith)))
 
 -- B m is the v before part m; the v in the first m parts
 abbrev pub gain : (ℕ → ℕ) → ℕ → ℕ
@@ -77,12 +74,9 @@ pub eighth : (B : ℕ → ℕ) (k n c left : ℕ) → Rising B → B 0 + k ≡ n
     → (Rising (gain B) → gain B 0 ≡ 0 → gain B c + left ≡ k)
     → Lies B n c left
 eighth B k n c left up e top h rest =
-    let r : Reached part k 7 c = subst (λ (m : ℕ). Reached part k 7 m) (sym h) (reached part k 7 (λ i j l. rise (i + 1) (j + 1) (omega arith))) in
+    let r = reach-first (gain B) k 7 c rise h in
     record { under = omega (arith, rest rise (omega arith), up 0 c zero-le); over = high (lt-or c 7) (r .within) (r .above) }
   where
-    part : ℕ → ℕ
-    part i = gain B (i + 1)
-
     rise : Rising (gain B)
     rise i j l = omega (arith, up i j l)
 

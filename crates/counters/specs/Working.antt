@@ -13,6 +13,10 @@ use Rattle.counters.specs.Tree.{nodes, height, fromChild, toChild, count
 abbrev pub movedBy : Bool → ℕ → ℕ → ℕ
 movedBy b d x = cond b ((x + d) % 2 ^ 32) x
 
+-- xs is eight zeros, then eight times d
+abbrev pub Steps : ℕ → List ℕ → Type 0
+Steps d xs = (i : ℕ) → i < 16 → getD xs i 0 ≡ cond (leb 8 i) d 0
+
 -- counter i of a node counts the node's child c
 abbrev pub countsChild : ℕ → ℕ → Bool
 countsChild c i = leb (fromChild i) c && ltb c (toChild i)

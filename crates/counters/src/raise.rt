@@ -1,43 +1,39 @@
 // Moving the counters that count a stroke, each by one: d is 1, or 2^32 - 1 to count down.
 ghost use mathlib.Core.Path.{_≡_};
-ghost use mathlib.Core.Bool.{cond};
-ghost use Prim.Native.Nat.{ℕ, _*_, _<_, _≤_};
+ghost use Prim.Native.Nat.{ℕ, _+_, _*_, _%_, _^_, _<_, _≤_};
 ghost use lib.ListN.{length, getD};
-ghost use lib.Dec.{leb};
 ghost use Rattle.counters.specs.Tree.{counterCount, changeCount};
-ghost use Rattle.counters.specs.Working.{movedBy, countsChild, PathRaised};
+ghost use Rattle.counters.specs.Working.{movedBy, countsChild, Steps, PathRaised};
 use super::shape::CHILDREN;
 use super::shape::NODE_COUNTERS;
 use super::shape::height_of;
 use words::handle::BLOCK_BITS;
 
-// d where g is at most i, else 0.
-fn step_from(g: usize, i: usize, d: u32) -> u32
-    ensures { λ r. ⌜ r ≡ cond (leb g i) d 0 ⌝ }
-{
-    if g <= i { d } else { 0 }
-}
-
-// Adds d to the numbers of eight from number g on.
-fn raise_from(lanes: &mut [u32], g: usize, d: u32)
-    requires { ⌜ length (now lanes) ≡ 8 ⌝ }
-    ensures { λ _. ⌜ ((i : ℕ) → i < 8 → getD (now (lanes .exit)) i 0 ≡ movedBy (leb g i) d (getD (now (lanes .entry)) i 0)) ⌝ }
+// Adds to each of eight numbers its step, modulo 2^32.
+fn raise_by(lanes: &mut [u32], steps: &[u32])
+    requires { ⌜ (length (now lanes) ≡ 8) × (length (now steps) ≡ 8) ⌝ }
+    ensures { λ _. ⌜ ((i : ℕ) → i < 8 → getD (now (lanes .exit)) i 0 ≡ (getD (now (lanes .entry)) i 0 + getD (now (steps .entry)) i 0) % 2 ^ 32) ⌝ }
 {
     for i in 0..8 {
-        lanes[i] = std::num::wrapping_add_u32(lanes[i], step_from(g, i, d));
+        lanes[i] = std::num::wrapping_add_u32(lanes[i], steps[i]);
     }
 }
 
 // Adds d to the counters of a node that count its child c: the summaries past c's group, and the keys of its group from c on.
-fn raise_node(node: &mut [u32], c: usize, d: u32)
-    requires { ⌜ (length (now node) ≡ 72) × (c < 64) ⌝ }
-    ensures { λ _. ⌜ ((i : ℕ) → i < 72 → getD (now (node .exit)) i 0 ≡ movedBy (countsChild c i) d (getD (now (node .entry)) i 0)) ⌝ }
+// `steps` is eight zeros, then eight times d: the eight of them from number 8 - k on are 0 for the first k counters, d for the others.
+fn raise_node(node: &mut [u32], steps: &[u32], c: usize)
+    requires { ⌜ (length (now node) ≡ 72) × (length (now steps) ≡ 16) × (c < 64) ⌝ }
+    ensures { λ _. ⌜ ((d : ℕ) → Steps d (now (steps .entry)) → (i : ℕ) → i < 72 → getD (now (node .exit)) i 0 ≡ movedBy (countsChild c i) d (getD (now (node .entry)) i 0)) ⌝ }
 {
     let g = c / 8;
-    raise_from(&mut node[0..8], g + 1, d);
+    let past_group = 7 - g;
+    let past_group_end = past_group + 8;
+    raise_by(&mut node[0..8], &steps[past_group..past_group_end]);
     let a = 8 + 8 * g;
     let e = a + 8;
-    raise_from(&mut node[a..e], c % 8, d);
+    let from_child = 8 - c % 8;
+    let from_child_end = from_child + 8;
+    raise_by(&mut node[a..e], &steps[from_child..from_child_end]);
 }
 
 // Adds d to the counters that count stroke p, level by level from the lowest, and answers their number. One node at a time is lent on.
@@ -50,6 +46,7 @@ pub fn raise_path(counters: &mut [u32], blocks: usize, p: usize, d: u32) -> usiz
     let mut child = p / BLOCK_BITS;
     let mut end = counters.len();
     let mut number: usize = 0;
+    let steps = [0u32, 0, 0, 0, 0, 0, 0, 0, d, d, d, d, d, d, d, d];
     for t in 0..levels {
         count = (count + (CHILDREN - 1)) / CHILDREN;
         end -= NODE_COUNTERS * count;
@@ -57,7 +54,7 @@ pub fn raise_path(counters: &mut [u32], blocks: usize, p: usize, d: u32) -> usiz
         child = child / CHILDREN;
         let a = end + NODE_COUNTERS * child;
         let e = a + NODE_COUNTERS;
-        raise_node(&mut counters[a..e], c, d);
+        raise_node(&mut counters[a..e], &steps, c);
         number += 15 - c % 8 - c / 8;
     }
     number

@@ -1,4 +1,4 @@
-// Finding the k-th v: fourteen counters a level, and two more of the root for the ones held; then at most eight words and one word select.
+// Finding the k-th v: sixteen counter reads a level, and two more of the root for the ones held; then at most eight words and one word select.
 ghost use mathlib.Core.Path.{_≡_};
 ghost use Prim.Native.Nat.{ℕ, _+_, _*_, _<_, _≤_};
 ghost use lib.ListN.{length, getD};
@@ -68,26 +68,31 @@ fn value_count(v: u64, bits: u32, x: u32) -> u32
     std::num::wrapping_sub_u32(bits, x)
 }
 
-// How many of the seven counters from place `from` on hold at most k of v, and k less the v that the last of these holds.
-// The first has `size` bits, and each has `size` bits more than the one before; P m is the v in the first m times `size` bits.
+// How many of the seven counters from place `from` on hold at most k of v, and k less the v of the counter with that number, which is the last to hold at
+// most k where they rise. The first has `size` bits, and each has `size` bits more than the one before; P m is the v in the first m times `size` bits.
+// That counter is read again by its place, so that no comparison carries its value along; where none holds at most k, the one before `from` is read and not used.
 fn count_reached(counters: &[u32], from: usize, size: u32, v: u64, k: u32) -> Spot
-    requires { ⌜ (from + 7 ≤ length (now counters)) × (size ≤ 16777216) × (v ≤ 1) ⌝ }
+    requires { ⌜ (1 ≤ from) × (from + 7 ≤ length (now counters)) × (size ≤ 16777216) × (v ≤ 1) ⌝ }
     ensures { λ r. ⌜ (r .index ≤ 7) × ((P : ℕ → ℕ) → ((i : ℕ) → i < 7 → Valued v (size * (i + 1)) (getD (now (counters .entry)) (from + i) 0) (P (i + 1))) → (r .index ≡ ones (atMost (λ i. P (i + 1)) k) 7) × (Rising P → P 0 ≡ 0 → P (r .index) + r .left ≡ k)) ⌝ }
 {
     let mut bits: u32 = 0;
-    let mut count: usize = 0;
-    let mut last: u32 = 0;
+    let mut count: u32 = 0;
     for i in 0..7 {
         bits += size;
         let x = value_count(v, bits, counters[from + i]);
         if x <= k {
             count += 1;
-            last = x;
         }
     }
+    let c = count as usize;
+    let last = value_count(v, size * count, counters[from + c - 1]);
     Spot {
-        index: count,
-        left: k - last,
+        index: c,
+        left: if count == 0 {
+            k
+        } else {
+            std::num::wrapping_sub_u32(k, last)
+        },
     }
 }
 
@@ -143,13 +148,10 @@ fn descend(counters: &[u32], blocks: usize, v: u64, k: u32) -> Spot
 
 // The position of the k-th v, or 512 * blocks where the counters lead nowhere.
 pub fn select_position(words: &[u64], counters: &[u32], blocks: usize, v: u64, k: usize) -> usize
-    requires { ⌜ (length (now words) ≡ 8 * blocks) × (length (now counters) ≡ counterCount blocks) × (0 < blocks) × (blocks ≤ 262144) × (v ≤ 1) ⌝ }
+    requires { ⌜ (length (now words) ≡ 8 * blocks) × (length (now counters) ≡ counterCount blocks) × (0 < blocks) × (blocks ≤ 262144) × (v ≤ 1) × (k < 512 * blocks) ⌝ }
     ensures { λ r. ⌜ (r ≤ 512 * blocks) × (AllFit (bitAt (now (words .entry))) blocks (now (counters .entry)) → k < rankOf (bitAt (now (words .entry))) v (512 * blocks) → r ≡ placeIn (512 * blocks) (selectOf (bitAt (now (words .entry))) (512 * blocks) v k)) ⌝ }
 {
     let end = BLOCK_BITS * blocks;
-    if end <= k {
-        return end;
-    }
     let spot = descend(counters, blocks, v, k as u32);
     let b = spot.index;
     if blocks <= b {

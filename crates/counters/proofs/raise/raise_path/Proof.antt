@@ -5,16 +5,16 @@ use native.Mathlib.Omega.{arith}
 use borrow.Author.Needs.{needs}
 use lib.ListN.{length}
 use Rattle.counters.proofs.SpliceLaws.{part-length}
-use Rattle.counters.proofs.RaiseLaws.{Climb, Next, climb-none, climb-next, climb-more, climb-done}
+use Rattle.counters.proofs.RaiseLaws.{Climb, Next, steps-made, climb-none, climb-next, climb-more, climb-done}
 use Rattle.counters.proofs.raise.raise_path.Statement.{statement}
 use Rattle.counters.proofs.raise.raise_path.Tie as tie
 
 abbrev Inv-loop : tie.InvT-loop
-Inv-loop counters₀ blocks p d levels count₀ child₀ end₀ number₀ t₀ counters count child end number t =
+Inv-loop counters₀ blocks p d levels count₀ child₀ end₀ number₀ steps t₀ counters count child end number t =
     (t ≤ levels) × (Climb blocks p d counters₀ t counters count child end number)
 
 abbrev μ-loop : tie.MeasureT-loop
-μ-loop counters₀ blocks p d levels count₀ child₀ end₀ number₀ t₀ counters count child end number t = levels - t
+μ-loop counters₀ blocks p d levels count₀ child₀ end₀ number₀ steps t₀ counters count child end number t = levels - t
 
 height-of-requires : tie.Need-height-of-requires Inv-loop μ-loop
 height-of-requires c κs = search needs
@@ -63,11 +63,14 @@ part-raise-node-start c = omega (arith, turn c)
 part-raise-node-end : tie.Need-part-raise-node-end Inv-loop μ-loop
 part-raise-node-end c = omega (arith, turn c)
 
+slice-aggregate-raise-node : tie.Need-slice-aggregate-raise-node Inv-loop μ-loop
+slice-aggregate-raise-node c = search needs
+
 raise-node-requires : tie.Need-raise-node-requires Inv-loop μ-loop
 raise-node-requires c κs =
-    let l = c .before .before .loop in
+    let l = c .before .before .before .loop in
     let a : ℕ = l .end - 72 * ((l .count + 63) / 64) + 72 * (l .child / 64) in
-    (part-length (l .counters) a (a + 72 - a) (omega (arith, turn (c .before))) ∙ omega arith, omega arith)
+    (part-length (l .counters) a (a + 72 - a) (omega (arith, turn (c .before .before))) ∙ omega arith, refl, omega arith)
 
 sub-number : tie.Need-sub-number Inv-loop μ-loop
 sub-number c = omega arith
@@ -76,21 +79,22 @@ sub-number-2 : tie.Need-sub-number-2 Inv-loop μ-loop
 sub-number-2 c = omega arith
 
 add-number : tie.Need-add-number Inv-loop μ-loop
-add-number c = omega (arith, turn (c .before .before .before .before), c .before .before .before .before .before .loop .inv .1 .number-le)
+add-number c = omega (arith, turn (c .before .before .before .before .before), c .before .before .before .before .before .before .loop .inv .1 .number-le)
 
 add-t : tie.Need-add-t Inv-loop μ-loop
-add-t c = omega (arith, turn (c .before .before .before .before))
+add-t c = omega (arith, turn (c .before .before .before .before .before))
 
 loop-less : tie.Need-loop-less Inv-loop μ-loop
 loop-less c = omega arith
 
 loop-again : tie.Need-loop-again Inv-loop μ-loop
 loop-again c =
-    let in-loop = c .before .before .before .before in
+    let in-loop = c .before .before .before .before .before in
     let l = in-loop .before .loop in
     let call = c .before .before .raise-node in
+    let d : ℕ = in-loop .before .before .before .before .args .d in
     let a : ℕ = l .end - 72 * ((l .count + 63) / 64) + 72 * (l .child / 64) in
-    (omega arith, climb-more (l .inv .1) (turn in-loop) a (a + 72 - a) (call .last .0) refl (omega arith) (call .kept .0) (call .ensures))
+    (omega arith, climb-more (l .inv .1) (turn in-loop) a (a + 72 - a) (call .last .0) refl (omega arith) (call .kept .0) (call .ensures d (steps-made d)))
 
 same-length : tie.Need-same-length Inv-loop μ-loop
 same-length c = c .before .loop .inv .1 .long
@@ -117,6 +121,7 @@ raise-path-spec =
     sub-raise-node
     part-raise-node-start
     part-raise-node-end
+    slice-aggregate-raise-node
     raise-node-requires
     sub-number
     sub-number-2

@@ -6,7 +6,7 @@ use Prim.Native.Nat.{_≤_}
 use native.Mathlib.Omega.{arith}
 use borrow.Author.Needs.{needs}
 use lib.ListN.{length}
-use borrow.Author.Tests.{ltb-false}
+use borrow.Author.Tests.{leb-false, ltb-false}
 use Rattle.words.specs.Refusals.{judge, refused}
 use Rattle.words.specs.Calls.{valueLine, absentLine}
 use Rattle.words.proofs.CheckLaws.{judged-pass, Passes}
@@ -78,8 +78,9 @@ returns-2 c =
 select-position-requires : tie.Need-select-position-requires
 select-position-requires c κs =
     let e = c .before .before .before .before in
+    let a = e .before .before .before .before .before .args in
     let z = known e in
-    (omega (arith, z .words, z .step), z .counters, omega (arith, z .least), omega (arith, z .most), fine e)
+    (omega (arith, z .words, z .step), z .counters, omega (arith, z .least), omega (arith, z .most), fine e, omega (arith, leb-false (a .h .length) (a .k) (own e .1 .0), z .long, z .step))
 
 returns-3 : tie.Need-returns-3
 returns-3 c =

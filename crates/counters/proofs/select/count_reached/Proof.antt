@@ -1,32 +1,34 @@
--- `counters::select::count_reached` meets its contract. The invariant: of the first i counters `count` hold at most k of v, the last of these `last`.
--- Assumes nothing.
-use mathlib.Core.Path.{_≡_, sym, subst}
-use mathlib.Core.Logic.{_⊎_, ⊎-elim, inl, inr}
+-- `counters::select::count_reached` meets its contract. The invariant: of the first i counters `count` hold at most k of v. Assumes nothing.
+use mathlib.Core.Path.{_≡_, sym, ap, subst}
+use mathlib.Core.Logic.{⊎-elim, inl, inr}
 use Prim.Native.Nat.{ℕ, _+_, _-_, _*_, _≤_, _<_}
-use native.Mathlib.Nat.{mul-zero}
+use native.Mathlib.Nat.{mul-zero, mul-le-mul-left}
 use native.Mathlib.Omega.{arith}
+use borrow.Author.Needs.{needs}
 use lib.ListN.{getD}
+use Rattle.words.specs.Bits.{ones}
+use Rattle.words.specs.Working.{atMost}
+use Rattle.words.proofs.Sums.{ones-zero}
 use Rattle.counters.specs.Descent.{Valued}
-use Rattle.counters.proofs.SelectionLaws.{times-more, Passed, passed-none, passed-more}
+use Rattle.counters.proofs.SelectionLaws.{times-more, sub-exact, reach-more, reach-low, nth-valued}
 use Rattle.counters.proofs.select.count_reached.Statement.{statement}
 use Rattle.counters.proofs.select.count_reached.Tie as tie
 
 abbrev Inv-loop : tie.InvT-loop
-Inv-loop counters from size v k bits₀ count₀ last₀ i₀ bits count last i =
+Inv-loop counters from size v k bits₀ count₀ i₀ bits count i =
     (i ≤ 7)
     × (bits ≡ size * i)
     × (bits ≤ 16777216 * i)
     × (count ≤ i)
-    × (last ≤ k)
-    × ((P : ℕ → ℕ) → ((j : ℕ) → j < 7 → Valued v (size * (j + 1)) (getD counters (from + j) 0) (P (j + 1))) → Passed P k i count last)
+    × ((P : ℕ → ℕ) → ((j : ℕ) → j < 7 → Valued v (size * (j + 1)) (getD counters (from + j) 0) (P (j + 1))) → count ≡ ones (atMost (λ j. P (j + 1)) k) i)
 
 abbrev μ-loop : tie.MeasureT-loop
-μ-loop counters from size v k bits₀ count₀ last₀ i₀ bits count last i = 7 - i
+μ-loop counters from size v k bits₀ count₀ i₀ bits count i = 7 - i
 
 loop-holds : tie.Need-loop-holds Inv-loop μ-loop
 loop-holds c =
     let s = c .before .args in
-    (omega arith, sym (mul-zero (s .size)), omega arith, omega arith, omega arith, λ P h. passed-none P (s .k))
+    (omega arith, sym (mul-zero (s .size)), omega arith, omega arith, λ P h. sym (ones-zero (atMost (λ j. P (j + 1)) (s .k))))
 
 add-bits : tie.Need-add-bits Inv-loop μ-loop
 add-bits c = omega arith
@@ -52,14 +54,6 @@ add-i c = omega arith
 loop-less : tie.Need-loop-less Inv-loop μ-loop
 loop-less c = omega arith
 
--- one more counter, at most k or above it
-came : (c : tie.Joined1 Inv-loop μ-loop)
-    → let k = c .before .before .before .before .before .before .args .k in
-    let l = c .before .before .before .before .loop in
-    let x = c .before .value-count .result in
-    ((x ≤ k) × ((c .if1 .count ≡ l .count + 1) × (c .if1 .last ≡ x))) ⊎ ((k < x) × ((c .if1 .count ≡ l .count) × (c .if1 .last ≡ l .last)))
-came c = ⊎-elim (λ w. inl (w .0 .taken, (w .1, w .2))) (λ w. inr (w .0 .left, (w .1, w .2))) (c .if1 .came)
-
 loop-again : tie.Need-loop-again Inv-loop μ-loop
 loop-again c =
     let s = c .before .before .before .before .before .before .args in
@@ -69,26 +63,64 @@ loop-again c =
       omega arith,
       sym e,
       omega arith,
-      ⊎-elim (λ w. omega (arith, w .1)) (λ w. omega (arith, w .1)) (came c),
-      ⊎-elim (λ w. omega (arith, w)) (λ w. omega (arith, w .1)) (came c),
+      ⊎-elim (λ w. omega (arith, w .1)) (λ w. omega (arith, w .1)) (c .if1 .came),
       λ P h.
-          passed-more P (s .k) (l .i) (l .count) (c .if1 .count) (x .result) (l .last) (c .if1 .last)
+          reach-more (λ j. P (j + 1)) (s .k) (l .i) (l .count) (c .if1 .count) (x .result)
           (x .ensures (P (l .i + 1)) (subst (λ (n : ℕ). Valued (s .v) n (getD (s .counters .now) (s .from + l .i) 0) (P (l .i + 1))) e (h (l .i) (omega arith))))
-          (l .inv .5 P h) (came c),
+          (l .inv .4 P h) (⊎-elim (λ w. inl (w .0 .taken, w .1)) (λ w. inr (w .0 .left, w .1)) (c .if1 .came)),
     )
 
-sub-t16 : tie.Need-sub-t16 Inv-loop μ-loop
-sub-t16 c = omega arith
+cast-c : tie.Need-cast-c Inv-loop μ-loop
+cast-c c = omega arith
 
-returns : tie.Need-returns Inv-loop μ-loop
-returns c =
+mul-value-count-2 : tie.Need-mul-value-count-2 Inv-loop μ-loop
+mul-value-count-2 c =
+    let l = c .before .loop in
+    omega (arith, l .inv, mul-le-mul-left (c .before .before .before .args .size) (l .inv .3))
+
+add-value-count-2 : tie.Need-add-value-count-2 Inv-loop μ-loop
+add-value-count-2 c = omega arith
+
+sub-value-count : tie.Need-sub-value-count Inv-loop μ-loop
+sub-value-count c = omega arith
+
+mul-value-count-3 : tie.Need-mul-value-count-3 Inv-loop μ-loop
+mul-value-count-3 c = omega arith
+
+shared-slice-read-value-count-2 : tie.Need-shared-slice-read-value-count-2 Inv-loop μ-loop
+shared-slice-read-value-count-2 c = omega arith
+
+value-count-requires-2 : tie.Need-value-count-requires-2 Inv-loop μ-loop
+value-count-requires-2 c κs = omega arith
+
+wrapping-sub-u32-requires : tie.Need-wrapping-sub-u32-requires Inv-loop μ-loop
+wrapping-sub-u32-requires c κs = search needs
+
+-- of all seven counters
+all : (c : tie.After-loop Inv-loop μ-loop)
+    → let s = c .before .before .before .args in
+    (P : ℕ → ℕ) → ((j : ℕ) → j < 7 → Valued (s .v) (s .size * (j + 1)) (getD (s .counters .now) (s .from + j) 0) (P (j + 1)))
+    → c .before .loop .count ≡ ones (atMost (λ j. P (j + 1)) (s .k)) 7
+all c P h =
     let s = c .before .before .before .args in
     let l = c .before .loop in
-    let e : l .i ≡ 7 = omega arith in (
+    let e : l .i ≡ 7 = omega arith in
+    subst (λ (i : ℕ). l .count ≡ ones (atMost (λ j. P (j + 1)) (s .k)) i) e (l .inv .4 P h)
+
+returns : tie.Need-returns Inv-loop μ-loop
+returns c = (omega arith, λ P h. (all (c .before .before .before) P h, λ up z. omega (arith, z, ap P (c .if2 .taken))))
+
+returns-2 : tie.Need-returns-2 Inv-loop μ-loop
+returns-2 c =
+    let s = c .before .before .before .before .before .before .before .args in
+    let l = c .before .before .before .before .before .loop in
+    let x = c .before .before .value-count2 in
+    let r = c .wrapping-sub-u32 in (
       omega arith,
       λ P h.
-          let w = subst (λ (i : ℕ). Passed P (s .k) i (l .count) (l .last)) e (l .inv .5 P h) in
-          (w .reach, λ up z. omega (arith, w .value up z, l .inv .4)),
+          let n = all (c .before .before .before .before) P h in
+          let e : x .result ≡ P (l .count) = x .ensures (P (l .count)) (nth-valued P (s .v) (s .size) (s .from) (l .count) (s .counters .now) h (omega arith) (omega arith)) in
+          (n, λ up z. omega (arith, e, sub-exact (s .k) (x .result) (r .result) (omega arith) (r .ensures) (omega (arith, e, reach-low P (s .k) 7 (l .count) up z n)))),
     )
 
 pub count-reached-spec : {M : Type 1} → statement M
@@ -107,5 +139,13 @@ count-reached-spec =
     add-i
     loop-less
     loop-again
-    sub-t16
-    returns)
+    cast-c
+    mul-value-count-2
+    add-value-count-2
+    sub-value-count
+    mul-value-count-3
+    shared-slice-read-value-count-2
+    value-count-requires-2
+    wrapping-sub-u32-requires
+    returns
+    returns-2)

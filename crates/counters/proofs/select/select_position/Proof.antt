@@ -9,7 +9,7 @@ use Rattle.words.specs.Bits.{bitAt}
 use Rattle.words.specs.Strip.{rankOf, selectOf}
 use Rattle.words.specs.Words.{placeIn}
 use Rattle.words.proofs.WordLaws.{bitAt-le}
-use Rattle.words.proofs.SearchLaws.{select-le, rank-le}
+use Rattle.words.proofs.SearchLaws.{select-le}
 use Rattle.counters.specs.Record.{AllFit}
 use Rattle.counters.specs.Descent.{Lies, valuesBefore}
 use Rattle.counters.proofs.SelectionLaws.{block-place}
@@ -19,21 +19,16 @@ use Rattle.counters.proofs.select.select_position.Tie as tie
 mul-end : tie.Need-mul-end
 mul-end c = search needs
 
-returns : tie.Need-returns
-returns c =
-    let s = c .before .before .before .args in
-    (le-refl (512 * s .blocks), λ fit h. absurd (omega (arith, h, c .if1 .taken, rank-le (bitAt (s .words .now)) (s .v) (512 * s .blocks))))
-
 cast-descend : tie.Need-cast-descend
 cast-descend c = search needs
 
 descend-requires : tie.Need-descend-requires
 descend-requires c κs = search needs
 
-returns-2 : tie.Need-returns-2
-returns-2 c =
-    let s = c .before .before .before .before .before .args in
-    (le-refl (512 * s .blocks), λ fit h. absurd (omega (arith, c .if2 .taken, c .before .descend .ensures (bitAt (s .words .now)) (bitAt-le (s .words .now)) fit h .0)))
+returns : tie.Need-returns
+returns c =
+    let s = c .before .before .before .before .args in
+    (le-refl (512 * s .blocks), λ fit h. absurd (omega (arith, c .if1 .taken, c .before .descend .ensures (bitAt (s .words .now)) (bitAt-le (s .words .now)) fit h .0)))
 
 mul-a : tie.Need-mul-a
 mul-a c = search needs
@@ -62,20 +57,20 @@ block-select-requires c κs = search needs
 -- within the block
 inside : (c : tie.After-block-select) → c .block-select .result ≤ 512
 inside c =
-    let s = c .before .before .before .before .before .before .before .before .args in
+    let s = c .before .before .before .before .before .before .before .args in
     let b : ℕ = c .before .before .before .before .descend .result .index in
     omega (arith, c .block-select .ensures, select-le (bitAt (take (8 * b + 8 - 8 * b) (drop (8 * b) (s .words .now)))) 512 (s .v) (c .before .wide .result))
 
 -- on a record that fits, the k-th v
 place : (c : tie.After-block-select)
-    → let s = c .before .before .before .before .before .before .before .before .args in
+    → let s = c .before .before .before .before .before .before .before .args in
     let f = bitAt (s .words .now) in
     let b = c .before .before .before .before .descend .result .index in
     let r = c .block-select .result in
     AllFit f (s .blocks) (s .counters .now) → s .k < rankOf f (s .v) (512 * s .blocks)
     → (r < 512) × (512 * b + r ≡ placeIn (512 * s .blocks) (selectOf f (512 * s .blocks) (s .v) (s .k)))
 place c fit h =
-    let s = c .before .before .before .before .before .before .before .before .args in
+    let s = c .before .before .before .before .before .before .before .args in
     let x = c .before .before .before .before .descend in
     let b : ℕ = x .result .index in
     let y = c .before .wide in
@@ -83,10 +78,10 @@ place c fit h =
     block-place (s .words .now) (s .blocks) b (s .v) (s .k) (y .result) (8 * b + 8 - 8 * b) (c .block-select .result) (omega arith) (l .0)
     (subst (λ (n : ℕ). Lies (valuesBefore (bitAt (s .words .now)) (s .v) 1) (s .k) b n) (sym (y .ensures .0)) (l .1)) (c .block-select .ensures)
 
-returns-3 : tie.Need-returns-3
-returns-3 c =
-    let s = c .before .before .before .before .before .before .before .before .before .args in
-    (le-refl (512 * s .blocks), λ fit h. absurd (omega (arith, c .if3 .taken, place (c .before) fit h .0)))
+returns-2 : tie.Need-returns-2
+returns-2 c =
+    let s = c .before .before .before .before .before .before .before .before .args in
+    (le-refl (512 * s .blocks), λ fit h. absurd (omega (arith, c .if2 .taken, place (c .before) fit h .0)))
 
 mul-result : tie.Need-mul-result
 mul-result c = search needs
@@ -94,18 +89,17 @@ mul-result c = search needs
 add-result : tie.Need-add-result
 add-result c = omega (arith, inside (c .before))
 
-returns-4 : tie.Need-returns-4
-returns-4 c = (omega (arith, inside (c .before), c .before .before .before .before .if2 .left), λ fit h. place (c .before) fit h .1)
+returns-3 : tie.Need-returns-3
+returns-3 c = (omega (arith, inside (c .before), c .before .before .before .before .if1 .left), λ fit h. place (c .before) fit h .1)
 
 pub select-position-spec : {M : Type 1} → statement M
 select-position-spec =
     tie.close
     (tie.spec
     mul-end
-    returns
     cast-descend
     descend-requires
-    returns-2
+    returns
     mul-a
     add-e
     mul-block-select
@@ -114,7 +108,7 @@ select-position-spec =
     part-block-select-end
     wide-requires
     block-select-requires
-    returns-3
+    returns-2
     mul-result
     add-result
-    returns-4)
+    returns-3)

@@ -1,20 +1,19 @@
--- `counters::raise::raise_from` meets its contract. The invariant: the numbers before i are moved where g is at most their place. Assumes nothing.
+-- `counters::raise::raise_by` meets its contract. The invariant: the numbers before i have their steps added. Assumes nothing.
 use Prim.Native.Nat.{_-_, _≤_}
 use native.Mathlib.Omega.{arith}
 use borrow.Author.Needs.{needs}
-use lib.Dec.{leb}
 use Rattle.counters.proofs.RaiseLaws.{Lanes, lanes-none, lanes-more}
-use Rattle.counters.proofs.raise.raise_from.Statement.{statement}
-use Rattle.counters.proofs.raise.raise_from.Tie as tie
+use Rattle.counters.proofs.raise.raise_by.Statement.{statement}
+use Rattle.counters.proofs.raise.raise_by.Tie as tie
 
 abbrev Inv-loop : tie.InvT-loop
-Inv-loop lanes₀ g d i₀ lanes i = (i ≤ 8) × (Lanes (leb g) d lanes₀ i lanes)
+Inv-loop lanes₀ steps i₀ lanes i = (i ≤ 8) × (Lanes steps lanes₀ i lanes)
 
 abbrev μ-loop : tie.MeasureT-loop
-μ-loop lanes₀ g d i₀ lanes i = 8 - i
+μ-loop lanes₀ steps i₀ lanes i = 8 - i
 
 loop-holds : tie.Need-loop-holds Inv-loop μ-loop
-loop-holds c = (omega arith, lanes-none (leb (c .before .args .g)) (c .before .args .d) (c .before .args .lanes .now))
+loop-holds c = (omega arith, lanes-none (c .before .before .args .steps .now) (c .before .before .args .lanes .now))
 
 mul-wrapping-add-u32 : tie.Need-mul-wrapping-add-u32 Inv-loop μ-loop
 mul-wrapping-add-u32 c = omega arith
@@ -22,8 +21,11 @@ mul-wrapping-add-u32 c = omega arith
 slice-read-wrapping-add-u32 : tie.Need-slice-read-wrapping-add-u32 Inv-loop μ-loop
 slice-read-wrapping-add-u32 c = omega arith
 
-step-from-requires : tie.Need-step-from-requires Inv-loop μ-loop
-step-from-requires c κs = search needs
+mul-wrapping-add-u32-2 : tie.Need-mul-wrapping-add-u32-2 Inv-loop μ-loop
+mul-wrapping-add-u32-2 c = omega arith
+
+shared-slice-read-wrapping-add-u32 : tie.Need-shared-slice-read-wrapping-add-u32 Inv-loop μ-loop
+shared-slice-read-wrapping-add-u32 c = omega arith
 
 wrapping-add-u32-requires : tie.Need-wrapping-add-u32-requires Inv-loop μ-loop
 wrapping-add-u32-requires c κs = search needs
@@ -42,11 +44,7 @@ loop-less c = omega arith
 
 loop-again : tie.Need-loop-again Inv-loop μ-loop
 loop-again c =
-    let l = c .before .before .before .before .loop in (
-      omega arith,
-      lanes-more (l .inv .1) (omega arith) (omega (arith, c .before .before .slice-known2 .given (l .i)))
-          (c .before .step-from .result) (c .wrapping-add-u32 .result) (c .before .step-from .ensures) (c .wrapping-add-u32 .ensures),
-    )
+    (omega arith, lanes-more (c .before .before .before .before .loop .inv .1) (omega arith) (c .wrapping-add-u32 .result) (c .wrapping-add-u32 .ensures))
 
 same-length : tie.Need-same-length Inv-loop μ-loop
 same-length c = c .before .loop .inv .1 .long
@@ -54,8 +52,8 @@ same-length c = c .before .loop .inv .1 .long
 returns : tie.Need-returns Inv-loop μ-loop
 returns c i h = c .before .loop .inv .1 .moved i (omega arith)
 
-pub raise-from-spec : {M : Type 1} → statement M
-raise-from-spec =
+pub raise-by-spec : {M : Type 1} → statement M
+raise-by-spec =
     tie.close
     (tie.spec
     Inv-loop
@@ -63,7 +61,8 @@ raise-from-spec =
     loop-holds
     mul-wrapping-add-u32
     slice-read-wrapping-add-u32
-    step-from-requires
+    mul-wrapping-add-u32-2
+    shared-slice-read-wrapping-add-u32
     wrapping-add-u32-requires
     mul-lanes
     slice-write-lanes
