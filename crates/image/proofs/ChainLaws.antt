@@ -403,18 +403,6 @@ place-found s label (b ∷ bs) a e = go (eqb (labelAt s b) label) refl e (place-
         record { index = 0; within = omega arith; here = z; its = ap (labelAt s) (sym z) ∙ eqb-true _ _ p }
     go false p q later = let f = later q in record { index = suc (f .index); within = omega (arith, f .within); here = f .here; its = f .its }
 
--- no record has the label
-pub place-none : (s : List ℕ) (label : ℕ) (rs : List ℕ) → placeOf s label rs ≡ none → (i : ℕ) → i < length rs → labelAt s (getD rs i 0) ≡ label → ⊥
-unfolding placeOf
-place-none s label [] e i l = absurd (omega arith)
-place-none s label (b ∷ bs) e i l = go (eqb (labelAt s b) label) refl e i l (place-none s label bs)
-  where
-    go : (t : Bool) → eqb (labelAt s b) label ≡ t → cond t (some b) (placeOf s label bs) ≡ none → (i : ℕ) → i < length (b ∷ bs)
-        → (placeOf s label bs ≡ none → (i : ℕ) → i < length bs → labelAt s (getD bs i 0) ≡ label → ⊥) → labelAt s (getD (b ∷ bs) i 0) ≡ label → ⊥
-    go true p q i l later = none-some q refl
-    go false p q zero l later = eqb-false _ _ p
-    go false p q (suc i) l later = later q i (omega arith)
-
 -- the records of one list, then of another
 pub place-append : (s : List ℕ) (label : ℕ) (xs ys : List ℕ) → placeOf s label (xs ++ ys) ≡ orElse (placeOf s label xs) (placeOf s label ys)
 unfolding placeOf

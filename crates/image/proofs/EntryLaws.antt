@@ -1,19 +1,45 @@
--- The fields of an entry, read from its two halves. Assumes nothing.
+-- An entry from its numbers, and its fields read from its two halves. Assumes nothing.
 use mathlib.Core.Path.{_≡_, sym, ap, ap₂, _∙_, subst}
 use mathlib.Core.List.{List}
 use Prim.Native.Nat.{ℕ, zero, suc, _+_, _-_, _*_, _/_, _%_, _^_, _≤_, _<_}
-use native.Mathlib.Nat.{mod-lt, mod-eq-of-lt, mul-mod-left, div-one, div-eq-of-lt, add-mul-div-left, add-mul-mod-self-left}
+use native.Mathlib.Nat.{mod-lt, mod-eq-of-lt, mul-zero, mul-mod-left, div-one, div-eq-of-lt, add-mul-div-left, add-mul-mod-self-left}
 use native.Mathlib.Numerals.{add-one}
 use native.Mathlib.Omega.{arith}
 use lib.Pow as P
 use lib.Pow.{shl-shr, shr-shr, shr-lt, mod-mod-pow, pow-pos}
 use Rattle.words.specs.Bits.{ones, digits}
 use Rattle.words.proofs.Sums.{ones-zero, ones-split, ones-le}
-use Rattle.words.proofs.DigitLaws.{digits-at}
+use Rattle.words.proofs.DigitLaws.{digits-ext, digits-at}
 use Rattle.image.specs.Bytes.{num}
-use Rattle.image.specs.Layout.{entryOf}
+use Rattle.image.specs.Layout.{superblockEntry, entryOf}
 use Rattle.image.specs.Reading.{superblockField, blockField, entryOnes}
-use Rattle.image.proofs.NumberLaws.{num-split}
+use Rattle.image.proofs.NumberLaws.{num-halves}
+
+-- ---- an entry from its numbers
+-- the ones of a superblock before one of its blocks fit their 12 bits
+pub block-ones-lt : (g : ℕ → ℕ) (j : ℕ) → ((p : ℕ) → g p ≤ 1) → j < 7 → ones g (512 * (j + 1)) < 4096
+block-ones-lt g j b h = omega (arith, ones-le g (512 * (j + 1)) b)
+
+-- with those before the superblock they make its entry
+pub entry-made : (g c : ℕ → ℕ) (sum : ℕ) → ((j : ℕ) → j < 7 → c j ≡ ones g (512 * (j + 1))) → sum + 2 ^ 44 * digits (2 ^ 12) c 7 ≡ superblockEntry g sum
+entry-made g c sum h = ap (λ (d : ℕ). sum + 2 ^ 44 * d) (digits-ext (2 ^ 12) c (λ j. ones g (512 * (j + 1))) 7 h)
+
+-- that of superblock e, with the row's ones before it, is entry e
+pub entry-placed : (f : ℕ → ℕ) (e sum : ℕ) → sum ≡ ones f (4096 * e) → superblockEntry (λ p. f (4096 * e + p)) sum ≡ entryOf f e
+unfolding entryOf
+entry-placed f e sum h = ap (superblockEntry (λ p. f (4096 * e + p))) h
+
+-- seven digits
+digits-seven : (b : ℕ) (g : ℕ → ℕ) → digits b g 7 ≡ g 0 + b * (g 1 + b * (g 2 + b * (g 3 + b * (g 4 + b * (g 5 + b * g 6)))))
+unfolding digits
+digits-seven b g =
+    let e : g 6 + b * 0 ≡ g 6 = omega (arith, mul-zero b) in
+    ap (λ (x : ℕ). g 0 + b * (g 1 + b * (g 2 + b * (g 3 + b * (g 4 + b * (g 5 + b * x)))))) e
+
+-- the ones before the superblock, then seven digits
+pub entry-is : (g : ℕ → ℕ) (w sum : ℕ) → w ≡ sum + 2 ^ 44 * (g 0 + 4096 * (g 1 + 4096 * (g 2 + 4096 * (g 3 + 4096 * (g 4 + 4096 * (g 5 + 4096 * g 6))))))
+    → w ≡ sum + 2 ^ 44 * digits (2 ^ 12) g 7
+entry-is g w sum h = h ∙ ap (λ (d : ℕ). sum + 2 ^ 44 * d) (sym (digits-seven (2 ^ 12) g))
 
 -- ---- what an entry holds
 module _ (f : ℕ → ℕ) (e : ℕ) (small : ones f (4096 * e) < 2 ^ 44) where
@@ -34,7 +60,7 @@ module _ (f : ℕ → ℕ) (e : ℕ) (small : ones f (4096 * e) < 2 ^ 44) where
       let up : v / 2 ^ 44 ≡ d = omega (arith, add-mul-div-left (ones f (4096 * e)) d (pow-pos 44), div-eq-of-lt small) in
       ap (λ (x : ℕ). x % 2 ^ 12) (sym (shr-shr v 44 (12 * j)))
       ∙ ap (λ (x : ℕ). x / 2 ^ (12 * j) % 2 ^ 12) up
-      ∙ digits-at 12 g 7 j (λ i l. omega (arith, ones-le (λ p. f (4096 * e + p)) (512 * (i + 1)) (λ p. b (4096 * e + p)))) (omega arith)
+      ∙ digits-at 12 g 7 j (λ i l. block-ones-lt (λ p. f (4096 * e + p)) i (λ p. b (4096 * e + p)) l) (omega arith)
       ∙ ap (λ (i : ℕ). ones (λ p. f (4096 * e + p)) (512 * i)) (add-one j)
 
 -- together: the ones before block m
@@ -117,10 +143,9 @@ pub entry-ones-is : (s : List ℕ) (m low high r : ℕ) → low ≡ num s (16 + 
     → r ≡ blockField (low + 2 ^ 64 * high) (m % 8) → low % 2 ^ 44 + r ≡ entryOnes s m
 unfolding entryOnes
 entry-ones-is s m low high r l h e =
-    let v : low + 2 ^ 64 * high ≡ num s (16 + 16 * (m / 8)) 16 = ap₂ (λ (x y : ℕ). x + 2 ^ 64 * y) l h ∙ sym (num-split s (16 + 16 * (m / 8)) 8 8) in
     let w : 2 ^ 64 * high ≡ 2 ^ 44 * (2 ^ 20 * high) = omega arith in
     let u : low % 2 ^ 44 ≡ superblockField (low + 2 ^ 64 * high) = sym (ap (λ (x : ℕ). (low + x) % 2 ^ 44) w ∙ add-mul-mod-self-left low (2 ^ 44) (2 ^ 20 * high)) in
-    ap₂ (λ (x y : ℕ). x + y) u e ∙ ap (λ (x : ℕ). superblockField x + blockField x (m % 8)) v
+    ap₂ (λ (x y : ℕ). x + y) u e ∙ ap (λ (x : ℕ). superblockField x + blockField x (m % 8)) (num-halves s (16 + 16 * (m / 8)) low high l h)
 
 -- they are below 2^44 and 4096 together
 pub entry-ones-lt : (s : List ℕ) (m : ℕ) → entryOnes s m < 17592186048512

@@ -8,7 +8,7 @@ use Prim.Native.Nat.{ℕ, zero, suc, _+_, _-_, _*_, _/_, _%_, _≤_, _<_}
 use native.Mathlib.Nat.{mod-eq-of-lt}
 use native.Mathlib.Omega.{arith}
 use lib.ListN.{length, getD, take, drop, length-drop, length-take, List·getD-eq-default}
-use lib.Seq.{sets, length-sets, getD-take, getD-drop, ext-getD}
+use lib.Seq.{sets, length-sets, getD-drop, ext-getD}
 use lib.Dec.{eqb, lit<}
 use borrow.Author.Tests.{eq-eqb, ne-eqb, eqb-false}
 use Rattle.words.specs.Bits.{bit}
@@ -21,7 +21,7 @@ use Rattle.words.proofs.CheckLaws.{absent-found, passed-both}
 use Rattle.counters.specs.Record.{Fits}
 use Rattle.counters.specs.Promises.{Promise, Below}
 use Rattle.counters.specs.Calls.{checks, rankTable, Ranked, selectTable, Selected}
-use Rattle.words.proofs.Sums.{lt-or}
+use Rattle.words.proofs.Sums.{lt-or, part-at}
 use Rattle.words.proofs.StripLaws.{strip-length}
 use Rattle.words.specs.declared.handle.Handle.{Handle}
 use Rattle.image.specs.Bytes.{num, le, bitFrom}
@@ -29,6 +29,7 @@ use Rattle.image.specs.Layout.{unitBytes, mostLabel, mostRow, bitsStart,
 use Rattle.image.specs.Chain.{nextAt, labelAt, lengthAt, endAt, goodLabel, among, chainOf, placeOf, endOf, linkOf}
 use Rattle.image.specs.Rows.{partAt, rowBits, Right}
 use Rattle.image.specs.Calls.{isSome, recordsIn, recordsOf, recordWith, recordLines, freezeTable, frozen, imageOutcome, freezeOutcome, openTable, rowPlace, rowPart, rowLength, rowGetTold, RowRanked, RowSelected}
+use Rattle.image.specs.Frozen.{GivesBack, RowKept}
 use Rattle.image.proofs.ChainLaws.{HeaderFacts, RecordFacts, Links, links-end, links-more, chain-links, links-chain, links-some, none-some, ChainFacts, chain-facts, place-found, place-append, label-good, opened}
 use Rattle.image.proofs.PutLaws.{length-le, le-small, sets-small, take-sets, drop-num, num-ext, num-sets, num-sets-in, num-sets-under, getD-sets-under, getD-sets-over}
 use Rattle.image.proofs.WriteLaws.{listOf-ext, record-front, record-length, record-next, record-label, record-long, record-bits, record-right, record-small, strip-le}
@@ -64,12 +65,10 @@ header-grown {s} {t} g h k =
       zeros = ⊎-elim (λ z. num-over g 8 8 (omega arith) (omega (arith, g .past))) (λ z. num-under g 8 8 (omega arith)) k ∙ h .zeros;
     }
 
--- a record before the last one stays as it is
-record-before : {s t : List ℕ} {link end label : ℕ} → Grown s t link end label → (a : ℕ) → RecordFacts s a → endAt s a ≤ link → RecordFacts t a
-record-before {s} {t} g a f h =
-    let n : nextAt t a ≡ nextAt s a = num-under g a 4 (omega arith) in
-    let l : labelAt t a ≡ labelAt s a = num-under g (a + 4) 4 (omega arith) in
-    let k : lengthAt t a ≡ lengthAt s a = num-under g (a + 8) 4 (omega arith) in
+-- a record whose label and length stay is sound, where its next index leads on
+record-grown : {s t : List ℕ} {link end label : ℕ} → Grown s t link end label → (a : ℕ) → RecordFacts s a → labelAt t a ≡ labelAt s a → lengthAt t a ≡ lengthAt s a
+    → ((nextAt t a ≡ 0 → ⊥) → endAt s a ≤ unitBytes * nextAt t a) → RecordFacts t a
+record-grown {s} {t} g a f l k next =
     let e : endAt t a ≡ endAt s a = ap (λ (x : ℕ). a + sizeOf x) k in
     record {
       room = omega (arith, g .long, f .room);
@@ -77,23 +76,20 @@ record-before {s} {t} g a f h =
       high = omega (arith, l, f .high);
       short = omega (arith, k, f .short);
       inside = omega (arith, g .long, e, f .inside);
-      ahead = λ z. omega (arith, n, e, f .ahead (λ y. z (n ∙ y)));
+      ahead = λ z. omega (arith, e, next z);
     }
+
+-- a record before the last one stays as it is
+record-before : {s t : List ℕ} {link end label : ℕ} → Grown s t link end label → (a : ℕ) → RecordFacts s a → endAt s a ≤ link → RecordFacts t a
+record-before {s} {t} g a f h =
+    let n : nextAt t a ≡ nextAt s a = num-under g a 4 (omega arith) in
+    record-grown g a f (num-under g (a + 4) 4 (omega arith)) (num-under g (a + 8) 4 (omega arith)) (λ z. omega (arith, n, f .ahead (λ y. z (n ∙ y))))
 
 -- the last one has the new one's index
 record-last : {s t : List ℕ} {link end label : ℕ} → Grown s t link end label → RecordFacts s link → endAt s link ≡ end → RecordFacts t link
 record-last {s} {t} {link} {end} g f h =
-    let l : labelAt t link ≡ labelAt s link = num-over g (link + 4) 4 (omega arith) (omega (arith, g .past)) in
-    let k : lengthAt t link ≡ lengthAt s link = num-over g (link + 8) 4 (omega arith) (omega (arith, g .past)) in
-    let e : endAt t link ≡ endAt s link = ap (λ (x : ℕ). link + sizeOf x) k in
-    record {
-      room = omega (arith, g .long, f .room);
-      low = omega (arith, l, f .low);
-      high = omega (arith, l, f .high);
-      short = omega (arith, k, f .short);
-      inside = omega (arith, g .long, e, f .inside);
-      ahead = λ z. omega (arith, g .linked, g .unit, e);
-    }
+    record-grown g link f (num-over g (link + 4) 4 (omega arith) (omega (arith, g .past))) (num-over g (link + 8) 4 (omega arith) (omega (arith, g .past)))
+    (λ z. omega (arith, g .linked, g .unit))
 
 -- a chain stands at its first record
 links-first : {s : List ℕ} {a : ℕ} {met : List ℕ} {b : ℕ} {bs : List ℕ} → Links s a met (b ∷ bs) → a ≡ b
@@ -339,16 +335,12 @@ pub record Kept (s t : List ℕ) (a : ℕ) : Type 0 where
   pub size : lengthAt t a ≡ lengthAt s a
   pub rest : drop 4 (partAt t a) ≡ drop 4 (partAt s a)
 
--- a byte of a record's part
-part-at : (s : List ℕ) (a x : ℕ) → x < sizeOf (lengthAt s a) → getD (partAt s a) x 0 ≡ getD s (a + x) 0
-part-at s a x h = getD-take (sizeOf (lengthAt s a)) (drop a s) x 0 h ∙ getD-drop a s x 0
-
--- of bytes
+-- a record's part is of bytes
 part-small : (s : List ℕ) (a : ℕ) → ((i : ℕ) → getD s i 0 < 256) → (i : ℕ) → getD (partAt s a) i 0 < 256
 part-small s a h i = ⊎-elim inside past (lt-or i (sizeOf (lengthAt s a)))
   where
     inside : i < sizeOf (lengthAt s a) → getD (partAt s a) i 0 < 256
-    inside l = subst (λ (x : ℕ). x < 256) (sym (part-at s a i l)) (h (a + i))
+    inside l = subst (λ (x : ℕ). x < 256) (sym (part-at s a (sizeOf (lengthAt s a)) 0 i l)) (h (a + i))
 
     past : sizeOf (lengthAt s a) ≤ i → getD (partAt s a) i 0 < 256
     past l =
@@ -374,9 +366,9 @@ record-kept {s} {t} {link} {end} g a f h w =
           (λ x k.
           let b : 4 + x < sizeOf (lengthAt s a) = omega (arith, length-drop 4 (partAt t a), pt) in
           getD-drop 4 (partAt t a) x 0
-          ∙ part-at t a (4 + x) (omega (arith, ap sizeOf n))
+          ∙ part-at t a (sizeOf (lengthAt t a)) 0 (4 + x) (omega (arith, ap sizeOf n))
           ∙ apart (a + (4 + x)) (omega arith) (omega arith)
-          ∙ sym (part-at s a (4 + x) b)
+          ∙ sym (part-at s a (sizeOf (lengthAt s a)) 0 (4 + x) b)
           ∙ sym (getD-drop 4 (partAt s a) x 0));
     }
 
@@ -397,18 +389,6 @@ pub promise-exact : {A : Type 0} {refuse : ℕ → A} {late : A} {Fit : Type 0} 
     → Promise A table refuse late Fit Loose o → Fit → o ≡ unless table refuse late
 promise-exact none p f = p .exact refl f
 promise-exact (some n) p f = p .early n refl
-
--- a row gives strip t back: it opens, it has t's length and bits and is right, and look, count and find answer by the definitions over t,
--- find for every k
-pub record GivesBack (s : List ℕ) (label : ℕ) (t : List ℕ) : Type 0 where
-  pub opens : judge (openTable s label) ≡ none
-  pub size : rowLength s label ≡ length t
-  pub bits : rowBits (rowPart s label) (rowLength s label) ≡ t
-  pub right : Right (rowPart s label) (rowLength s label)
-  pub look : (i : ℕ) → rowGetTold s label i ≡ unless (judge (belowLine (length t) i ∷ [])) refused (value (cell t i))
-  pub count : (v i : ℕ) (o : Told) → RowRanked s label v i o
-      → o ≡ unless (judge (valueLine v ∷ withinLine (length t) i ∷ [])) refused (value (rank t v i))
-  pub find : (v k : ℕ) (o : Told) → RowSelected s label v k o → o ≡ unless (judge (valueLine v ∷ [])) refused (found (select t v k))
 
 -- the readings of a right row follow
 pub gives-back : (s : List ℕ) (label : ℕ) (t : List ℕ) → judge (openTable s label) ≡ none → rowLength s label ≡ length t
@@ -436,19 +416,6 @@ gives-back s label t e n b r =
           ∙ absent-found (valueLine v ∷ []) t v k;
     }
 
--- a row is the same in both images: its place and length, every byte but its next index, its bits, whether it is right, and what is promised of its readings
-pub record RowKept (s t : List ℕ) (l : ℕ) : Type 0 where
-  pub opens : judge (openTable t l) ≡ none
-  pub place : rowPlace t l ≡ rowPlace s l
-  pub size : rowLength t l ≡ rowLength s l
-  pub rest : drop 4 (rowPart t l) ≡ drop 4 (rowPart s l)
-  pub bits : rowBits (rowPart t l) (rowLength t l) ≡ rowBits (rowPart s l) (rowLength s l)
-  pub right : Right (rowPart s l) (rowLength s l) → Right (rowPart t l) (rowLength t l)
-  pub wrong : (Right (rowPart s l) (rowLength s l) → ⊥) → Right (rowPart t l) (rowLength t l) → ⊥
-  pub look : (i : ℕ) → rowGetTold t l i ≡ rowGetTold s l i
-  pub count : (v i : ℕ) (o : Told) → RowRanked t l v i o → RowRanked s l v i o
-  pub find : (v k : ℕ) (o : Told) → RowSelected t l v k o → RowSelected s l v k o
-
 -- a promise in other words
 promise-map : {A : Type 0} {table table′ : Option ℕ} {refuse : ℕ → A} {late late′ : A} {Fit Fit′ : Type 0} {Loose Loose′ : A → Type 0} {o : A} → table′ ≡ table
     → late ≡ late′ → (Fit′ → Fit) → (Loose o → Loose′ o) → Promise A table refuse late Fit Loose o → Promise A table′ refuse late′ Fit′ Loose′ o
@@ -468,21 +435,26 @@ row-kept s t l es et p n d hs ht ks kt =
     λ x. right-kept (rowPart t l) (rowPart s l) m (sym d) hs ks (subst (Right (rowPart t l)) n x) in
     let table : (f : ℕ → List Line) → judge (openTable s l ++ f m) ≡ judge (openTable t l ++ f (rowLength t l)) =
     λ f. after-lines (openTable s l) (f m) es ∙ ap (λ (x : ℕ). judge (f x)) (sym n) ∙ sym (after-lines (openTable t l) (f (rowLength t l)) et) in
+    let ranked : (v i : ℕ) → value (rank (rowBits (rowPart t l) (rowLength t l)) v i) ≡ value (rank (rowBits (rowPart s l) m) v i) =
+    λ v i. ap (λ (z : List ℕ). value (rank z v i)) b in
+    let selected : (v k : ℕ) → found (select (rowBits (rowPart t l) (rowLength t l)) v k) ≡ found (select (rowBits (rowPart s l) m) v k) =
+    λ v k. ap (λ (z : List ℕ). found (select z v k)) b in
     record {
+      was = es;
       opens = et;
       place = p;
       size = n;
       rest = d;
       bits = b;
       right = r;
-      wrong = λ x y. x (w y);
+      only = w;
       look = λ i.
           ap₂ (λ (o : Option ℕ) (z : List ℕ). unless o refused (value (cell z i))) (sym (table (λ x. belowLine x i ∷ []))) b;
-      count = λ v i o q.
-          promise-map (table (λ x. valueLine v ∷ withinLine x i ∷ [])) (ap (λ (z : List ℕ). value (rank z v i)) b) r
-          (λ x. x) q;
-      find = λ v k o q.
-          promise-map (table (λ x. valueLine v ∷ absentLine x k ∷ [])) (ap (λ (z : List ℕ). found (select z v k)) b) r (subst (λ (x : ℕ). Below 15 x o) n) q;
+      count = λ v i o q. promise-map (table (λ x. valueLine v ∷ withinLine x i ∷ [])) (ranked v i) r (λ x. x) q;
+      count-only = λ v i o q. promise-map (sym (table (λ x. valueLine v ∷ withinLine x i ∷ []))) (sym (ranked v i)) w (λ x. x) q;
+      find = λ v k o q. promise-map (table (λ x. valueLine v ∷ absentLine x k ∷ [])) (selected v k) r (subst (λ (x : ℕ). Below 15 x o) n) q;
+      find-only = λ v k o q.
+          promise-map (sym (table (λ x. valueLine v ∷ absentLine x k ∷ []))) (sym (selected v k)) w (subst (λ (x : ℕ). Below 15 x o) (sym n)) q;
     }
 
 -- ---- the rows of a frozen image

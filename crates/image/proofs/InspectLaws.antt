@@ -16,7 +16,7 @@ use Rattle.image.specs.Written.{Labelled, written}
 use Rattle.image.specs.Calls.{isSome, recordsIn, recordsOf, allRight, inspectTold, goodPart}
 use Rattle.image.proofs.RightLaws.{right-test, test-right}
 use Rattle.image.proofs.ChainLaws.{RecordFacts, Links, links-end, links-more, links-none, links-some, chain-links, some-in}
-use Rattle.image.proofs.RowLaws.{part-length, part-good}
+use Rattle.image.proofs.RowLaws.{part-held, part-good}
 use Rattle.image.proofs.WrittenLaws.{Good, places, length-places, written-chain, written-records, written-row}
 
 -- ---- right rows
@@ -244,7 +244,7 @@ inspected-done {s} {at} {count} w z =
 -- a record's part and the length that it holds, as they are read
 module _ (s : List ℕ) (at : ℕ) (part : List ℕ) (n : ℕ) (f : RecordFacts s at) (p : part ≡ partAt s at) (l : n ≡ lengthAt part 0) where
   its-length : n ≡ lengthAt s at
-  its-length = l ∙ ap (λ (q : List ℕ). lengthAt q 0) p ∙ part-length s at f
+  its-length = part-held s at f part n p l
 
   pub read-good : goodPart part n ≡ true
   read-good = ap₂ goodPart p its-length ∙ part-good s at f

@@ -1,13 +1,12 @@
 -- Numbers of bytes by their digits. Assumes nothing.
-use mathlib.Core.Path.{_≡_, sym, ap, _∙_}
+use mathlib.Core.Path.{_≡_, sym, ap, ap₂, _∙_}
 use mathlib.Core.List.{List}
 use Prim.Native.Nat.{ℕ, zero, suc, _+_, _*_, _/_, _%_, _^_, _≤_, _<_}
 use native.Mathlib.Nat.{add-assoc, pow-zero, pow-succ', mul-add, mul-assoc, one-mul}
 use native.Mathlib.Omega.{arith}
-use lib.Arith as A
 use lib.ListN.{getD, take, drop}
-use lib.Seq.{getD-drop, getD-take}
 use Rattle.words.specs.Bits.{bit, digits}
+use Rattle.words.proofs.Sums.{part-at}
 use Rattle.words.proofs.BitLaws.{byte-bit}
 use Rattle.words.proofs.DigitLaws.{digits-ext, digits-at}
 use Rattle.image.specs.Bytes.{num}
@@ -47,8 +46,12 @@ num-split s at m n =
     ∙ ap (λ (y : ℕ). num s at m + 256 ^ m * y)
     (digits-ext 256 (λ i. getD s (at + (m + i)) 0) (λ i. getD s (at + m + i) 0) n (λ i l. ap (λ (k : ℕ). getD s k 0) (omega arith)))
 
+-- a number of 16 bytes is that of its two halves
+pub num-halves : (s : List ℕ) (at low high : ℕ) → low ≡ num s at 8 → high ≡ num s (at + 8) 8 → low + 2 ^ 64 * high ≡ num s at 16
+num-halves s at low high l h = ap₂ (λ (x y : ℕ). x + 2 ^ 64 * y) l h ∙ sym (num-split s at 8 8)
+
 -- a number in the m bytes from byte a on
 pub num-taken : (s : List ℕ) (a m at n : ℕ) → at + n ≤ m → num (take m (drop a s)) at n ≡ num s (a + at) n
 num-taken s a m at n h =
     digits-ext 256 (λ i. getD (take m (drop a s)) (at + i) 0) (λ i. getD s (a + at + i) 0) n (λ i l.
-    getD-take m (drop a s) (at + i) 0 (omega arith) ∙ getD-drop a s (at + i) 0 ∙ ap (λ (k : ℕ). getD s k 0) (sym (add-assoc a at i)))
+    part-at s a m 0 (at + i) (omega arith) ∙ ap (λ (k : ℕ). getD s k 0) (sym (add-assoc a at i)))

@@ -1,6 +1,6 @@
 -- An opened row: its part is exactly one record of the length held, so that look, count and find on it are those of the row; a refused opening's part is
 -- empty, so that every call on it gets 10. Assumes nothing.
-use mathlib.Core.Path.{_≡_, refl, sym, ap, ap₂, subst, _∙_}
+use mathlib.Core.Path.{_≡_, refl, ap, ap₂, _∙_}
 use mathlib.Core.Bool.{true, false}
 use mathlib.Core.List.{List, [], _∷_}
 use mathlib.Core.Option.{Option, some, none}
@@ -8,15 +8,14 @@ use Prim.Native.Nat.{ℕ, _≤_}
 use native.Mathlib.Omega.{arith}
 use borrow.Author.Tests.{le-leb}
 use lib.ListN.{length}
-use Rattle.words.specs.Strip.{cell, rank, select}
-use Rattle.words.specs.Refusals.{Line, judge, unless, Told, value, refused, found}
+use Rattle.words.specs.Strip.{cell}
+use Rattle.words.specs.Refusals.{Line, judge, unless, Told, value, refused}
 use Rattle.words.specs.Calls.{valueLine, belowLine, withinLine, absentLine}
-use Rattle.counters.specs.Promises.{Promise, AtMost, Below}
 use Rattle.image.specs.Chain.{lengthAt}
-use Rattle.image.specs.Rows.{rowBits, Right}
+use Rattle.image.specs.Rows.{rowBits}
 use Rattle.image.specs.Calls.{openTable, openPart, heldLength, goodPart, partLine, partGetTold, PartRanked, PartSelected, rowPlace, rowPart, rowLength, rowGetTold, RowRanked, RowSelected}
 use Rattle.image.proofs.ChainLaws.{RecordFacts, opened}
-use Rattle.image.proofs.RowLaws.{part-long, part-length, part-good, table-opened}
+use Rattle.image.proofs.RowLaws.{part-long, part-length, part-good, RowHeld, row-look, row-count, row-find}
 
 -- the length held with a part that has room for a record's numbers is the one among them
 held : (part : List ℕ) → 16 ≤ length part → heldLength part ≡ lengthAt part 0
@@ -44,31 +43,20 @@ module _ (s : List ℕ) (label : ℕ) (e : judge (openTable s label) ≡ none) w
   pub opened-good : goodPart (openPart s label) (heldLength (openPart s label)) ≡ true
   opened-good = ap₂ goodPart opened-part opened-held ∙ part-good s (rowPlace s label) facts
 
+  -- its part and the length held are the row's
+  opened-row : RowHeld s label (openPart s label) (heldLength (openPart s label))
+  opened-row = record { passed = e; its = opened-part; long = opened-held; good = part-good s (rowPlace s label) facts }
+
   -- look on it is row look
   pub opened-look : (i : ℕ) → partGetTold (openPart s label) (heldLength (openPart s label)) i ≡ rowGetTold s label i
-  opened-look i =
-      let p : List ℕ = rowPart s label in
-      let n : ℕ = rowLength s label in
-      ap₂ (λ (q : List ℕ) (m : ℕ). partGetTold q m i) opened-part opened-held
-      ∙ ap (λ (v : Option ℕ). unless v refused (value (cell (rowBits p n) i)))
-      (sym (table-opened s label p n (belowLine n i ∷ []) e (part-good s (rowPlace s label) facts)))
+  opened-look = row-look opened-row
 
   -- and so are count and find
   pub opened-count : (v i : ℕ) (t : Told) → PartRanked (openPart s label) (heldLength (openPart s label)) v i t → RowRanked s label v i t
-  opened-count v i t h =
-      let p : List ℕ = rowPart s label in
-      let n : ℕ = rowLength s label in
-      subst (λ (o : Option ℕ). Promise Told o refused (value (rank (rowBits p n) v i)) (Right p n) (AtMost 15 i) t)
-      (sym (table-opened s label p n (valueLine v ∷ withinLine n i ∷ []) e (part-good s (rowPlace s label) facts)))
-      (subst (λ (q : List ℕ). PartRanked q n v i t) opened-part (subst (λ (m : ℕ). PartRanked (openPart s label) m v i t) opened-held h))
+  opened-count = row-count opened-row
 
   pub opened-find : (v k : ℕ) (t : Told) → PartSelected (openPart s label) (heldLength (openPart s label)) v k t → RowSelected s label v k t
-  opened-find v k t h =
-      let p : List ℕ = rowPart s label in
-      let n : ℕ = rowLength s label in
-      subst (λ (o : Option ℕ). Promise Told o refused (found (select (rowBits p n) v k)) (Right p n) (Below 15 n) t)
-      (sym (table-opened s label p n (valueLine v ∷ absentLine n k ∷ []) e (part-good s (rowPlace s label) facts)))
-      (subst (λ (q : List ℕ). PartSelected q n v k t) opened-part (subst (λ (m : ℕ). PartSelected (openPart s label) m v k t) opened-held h))
+  opened-find = row-find opened-row
 
 -- ---- a refused opening
 

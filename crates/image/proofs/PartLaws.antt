@@ -1,7 +1,7 @@
 -- The part of a row: the places of its numbers, entries and bits; what a right row's part holds there; and what the reading calls give.
 -- Assumes nothing.
 use mathlib.Core.Path.{_≡_, refl, sym, ap, ap₂, _∙_, subst}
-use mathlib.Core.Bool.{Bool, true, false, _&&_}
+use mathlib.Core.Bool.{Bool, true, false}
 use mathlib.Core.Logic.{_⊎_, inl, inr}
 use mathlib.Core.List.{List}
 use mathlib.Core.Option.{none}
@@ -10,7 +10,7 @@ use native.Mathlib.Nat.{two-pow-succ, min-eq-left, le-refl, mul-add, mul-one, mu
 use native.Mathlib.Omega.{arith}
 use lib.Dec.{leb, eqb}
 use borrow.Author.Tests.{leb-true, leb-false, eqb-true}
-use lib.ListN.{length, getD, List·getD-eq-default}
+use lib.ListN.{length, getD}
 use Rattle.words.specs.Bits.{bit, bitAt, ones}
 use Rattle.words.specs.Strip.{cell, holds, rank, rankOf, select, selectOf}
 use Rattle.words.specs.Working.{ofValue, atMost}
@@ -23,12 +23,12 @@ use Rattle.words.proofs.SearchLaws.{select-exists, select-place, select-none, s
 use Rattle.counters.specs.Promises.{Promise, AtMost, Below}
 use Rattle.counters.proofs.PromiseLaws.{promise-passed}
 use Rattle.image.specs.Bytes.{num, bitFrom}
-use Rattle.image.specs.Layout.{superblocksIn, startIn, sizeIn, superblocksOf, bitsStart, sizeOf, recordOf}
+use Rattle.image.specs.Layout.{superblocksIn, startIn, sizeIn, superblocksOf, bitsStart, sizeOf, entryOf, recordOf}
 use Rattle.image.specs.Chain.{labelAt, lengthAt, onesAt, goodLabel}
 use Rattle.image.specs.Rows.{rowBits, Right}
 use Rattle.image.specs.Calls.{goodPart}
 use Rattle.image.specs.Reading.{superblockField, blockField, entryOnes, Halved}
-use Rattle.image.proofs.WriteLaws.{record-total, record-entry, record-bit, rank-all}
+use Rattle.image.proofs.WriteLaws.{listOf-past, listOf-all, record-total, record-entry, record-bit, rank-all}
 use Rattle.image.proofs.NumberLaws.{bytes-bit}
 use Rattle.image.proofs.EntryLaws.{entry-before}
 
@@ -62,15 +62,11 @@ module _ (part : List ℕ) (n : ℕ) where
 
   -- zero past the length
   pub row-past : (p : ℕ) → n ≤ p → cell (rowBits part n) p ≡ 0
-  row-past p l = List·getD-eq-default (rowBits part n) 0 (subst (λ (m : ℕ). m ≤ p) (sym row-length) l)
+  row-past p l = listOf-past (bitFrom part (bitsStart n)) n p l
 
   -- each is 0 or 1
   pub row-le : (p : ℕ) → cell (rowBits part n) p ≤ 1
-  row-le p = go (lt-or p n)
-    where
-      go : (p < n) ⊎ (n ≤ p) → cell (rowBits part n) p ≤ 1
-      go (inl l) = omega (arith, row-cell p l, bit-le (getD part (bitsStart n + p / 8) 0) (p % 8))
-      go (inr l) = omega (arith, row-past p l)
+  row-le = listOf-all (λ x. x ≤ 1) (bitFrom part (bitsStart n)) n (λ p. bit-le (getD part (bitsStart n + p / 8) 0) (p % 8)) (omega arith)
 
 -- ---- a row by its index
 -- the bits of a part from byte `start` on are f, of which n bits lie in `blocks` blocks of 512 bits; `told m` is the ones before block m
@@ -100,13 +96,17 @@ module _ (part : List ℕ) (n : ℕ) (short : n ≤ 134217728) (right : Right pa
       ∙ rank-all t (row-le part n)
       ∙ ap (ones (cell t)) long
 
+  -- entry e
+  pub right-entry : (e : ℕ) → e < superblocksOf n → num part (16 + 16 * e) 16 ≡ entryOf (cell t) e
+  right-entry e l =
+      right-num (16 + 16 * e) 16
+      ∙ record-entry (num part 0 4) (num part 4 4) t (row-le part n) e (omega (arith, long)) (omega (arith, ap superblocksOf long))
+
   -- the ones before block m, by the entry of its superblock
   right-before : (m : ℕ) → m < 8 * superblocksOf n → entryOnes part m ≡ ones (cell t) (512 * m)
   unfolding entryOnes
   right-before m l =
-      ap (λ (v : ℕ). superblockField v + blockField v (m % 8))
-      (right-num (16 + 16 * (m / 8)) 16
-      ∙ record-entry (num part 0 4) (num part 4 4) t (row-le part n) (m / 8) (omega (arith, long)) (omega (arith, ap superblocksOf long)))
+      ap (λ (v : ℕ). superblockField v + blockField v (m % 8)) (right-entry (m / 8) (omega arith))
       ∙ entry-before (cell t) m (omega (arith, ones-le (cell t) (4096 * (m / 8)) (row-le part n))) (row-le part n)
 
   -- the bits, padding too
@@ -123,6 +123,13 @@ module _ (part : List ℕ) (n : ℕ) (short : n ≤ 134217728) (right : Right pa
         before = right-before;
         bits = λ p l. right-bits p (omega arith);
       }
+
+-- the bits from k bytes past `start` on are those from bit 8 k on
+pub bits-from : (s : List ℕ) (start at k m p : ℕ) → at ≡ start + k → 8 * k ≡ m → bitFrom s at p ≡ bitFrom s start (m + p)
+bits-from s start at k m p h e =
+    let i : at + p / 8 ≡ start + (m + p) / 8 = omega arith in
+    let j : p % 8 ≡ (m + p) % 8 = omega arith in
+    ap₂ (λ (x y : ℕ). bit (getD s x 0) y) i j
 
 -- words that are the numbers of eight bytes each have the bits of these bytes
 pub words-bit : (s block : List ℕ) (at : ℕ) → ((i : ℕ) → getD s i 0 < 256) → ((d : ℕ) → d < 8 → getD block d 0 ≡ num s (at + 8 * d) 8)
@@ -222,10 +229,7 @@ module _ (part : List ℕ) (start blocks n : ℕ) (f told : ℕ → ℕ) (x : In
   module _ (block : List ℕ) (at : ℕ) (inside : m < blocks) (there : at ≡ start + 64 * m) (bits : (p : ℕ) → p < 512 → bitAt block p ≡ bitFrom part at p) where
     -- they are the row's
     words-cell : (p : ℕ) → p < 512 → bitAt block p ≡ f (512 * m + p)
-    words-cell p l =
-        let i : at + p / 8 ≡ start + (512 * m + p) / 8 = omega arith in
-        let j : p % 8 ≡ (512 * m + p) % 8 = omega arith in
-        bits p l ∙ ap₂ (λ (y z : ℕ). bit (getD part y 0) z) i j ∙ x .bits (512 * m + p) (omega arith)
+    words-cell p l = bits p l ∙ bits-from part start at (64 * m) (512 * m) p there (omega arith) ∙ x .bits (512 * m + p) (omega arith)
 
     -- the ones before a position in it
     pub ones-there : (k : ℕ) → k ≤ 512 → told m + ones (bitAt block) k ≡ ones f (512 * m + k)
@@ -248,40 +252,25 @@ module _ (part : List ℕ) (start blocks n : ℕ) (f told : ℕ → ℕ) (x : In
         (there .0, omega (arith, select-place f n v k (w .0) (w .1) .below), q ∙ sym (ap (placeIn n) (w .1)))
 
 -- ---- what the check of a part leaves
-pub good-part : (part : List ℕ) (n : ℕ) → goodPart part n ≡ true → (16 ≤ length part) × (length part ≡ sizeOf n) × (n ≤ 134217728)
-unfolding goodPart
-good-part part n h =
-    let all = and-second b1 (b2 && (b3 && (b4 && b5))) h in
-    let three = and-second b2 (b3 && (b4 && b5)) all in
-    let two = and-second b3 (b4 && b5) three in
-    let e : n ≡ lengthAt part 0 = eqb-true n (lengthAt part 0) (and-second b4 b5 two) in (
-      leb-true 16 (length part) (and-first b1 (b2 && (b3 && (b4 && b5))) h),
-      eqb-true (length part) (sizeOf (lengthAt part 0)) (and-first b4 b5 two) ∙ ap sizeOf (sym e),
-      omega (arith, leb-true (lengthAt part 0) 134217728 (and-first b3 (b4 && b5) three)),
-    )
-  where
-    b1 : Bool
-    b1 = leb 16 (length part)
-
-    b2 : Bool
-    b2 = goodLabel (labelAt part 0)
-
-    b3 : Bool
-    b3 = leb (lengthAt part 0) 134217728
-
-    b4 : Bool
-    b4 = eqb (length part) (sizeOf (lengthAt part 0))
-
-    b5 : Bool
-    b5 = eqb n (lengthAt part 0)
-
--- and the length held is the record's
+-- the length held is the record's
 pub good-length : (part : List ℕ) (n : ℕ) → goodPart part n ≡ true → n ≡ lengthAt part 0
 unfolding goodPart
 good-length part n h =
     eqb-true n (lengthAt part 0)
     (and-second (eqb (length part) (sizeOf (lengthAt part 0))) _
     (and-second (leb (lengthAt part 0) 134217728) _ (and-second (goodLabel (labelAt part 0)) _ (and-second (leb 16 (length part)) _ h))))
+
+-- and the part has the size of its record
+pub good-part : (part : List ℕ) (n : ℕ) → goodPart part n ≡ true → (16 ≤ length part) × (length part ≡ sizeOf n) × (n ≤ 134217728)
+unfolding goodPart
+good-part part n h =
+    let e = good-length part n h in
+    let rest = and-second (goodLabel (labelAt part 0)) _ (and-second (leb 16 (length part)) _ h) in
+    let sized = and-second (leb (lengthAt part 0) 134217728) _ rest in (
+      leb-true 16 (length part) (and-first (leb 16 (length part)) _ h),
+      eqb-true (length part) (sizeOf (lengthAt part 0)) (and-first (eqb (length part) (sizeOf (lengthAt part 0))) _ sized) ∙ ap sizeOf (sym e),
+      omega (arith, leb-true (lengthAt part 0) 134217728 (and-first (leb (lengthAt part 0) 134217728) _ rest)),
+    )
 
 -- ---- count, where a call's table passes: x is what the entry and the bits say
 module _ (t : List Line) (part : List ℕ) (n v i x : ℕ) (pass : judge t ≡ none) (small : v ≤ 1) (within : i ≤ n)

@@ -202,10 +202,6 @@ num-sets-in xs s a b n h k =
 pub num-sets-under : (xs s : List ℕ) (a b n : ℕ) → b + n ≤ a → num (sets s a xs) b n ≡ num s b n
 num-sets-under xs s a b n h = num-ext (sets s a xs) s b b n (λ i l. getD-sets-under xs s a (b + i) (omega arith))
 
--- a number after them
-pub num-sets-over : (xs s : List ℕ) (a b n : ℕ) → a + length xs ≤ b → num (sets s a xs) b n ≡ num s b n
-num-sets-over xs s a b n h = num-ext (sets s a xs) s b b n (λ i l. getD-sets-over xs s a (b + i) (omega arith))
-
 -- two numbers stored side by side are one
 pub put-join : (s : List ℕ) (at m n a b : ℕ) → a < 256 ^ m → sets (sets s at (le m a)) (at + m) (le n b) ≡ sets s at (le (m + n) (a + 256 ^ m * b))
 put-join s at m n a b h =

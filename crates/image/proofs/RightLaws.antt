@@ -25,10 +25,11 @@ use Rattle.image.specs.Calls.{goodPart}
 use Rattle.image.specs.Reading.{PaddingZero}
 use Rattle.image.proofs.SameLaws.{same-eq, same-refl}
 use Rattle.image.proofs.ChainLaws.{decides}
-use Rattle.image.proofs.NumberLaws.{num-split}
+use Rattle.image.proofs.NumberLaws.{num-halves}
+use Rattle.image.proofs.EntryLaws.{block-ones-lt, entry-made, entry-placed}
 use Rattle.image.proofs.PutLaws.{drop-num}
-use Rattle.image.proofs.WriteLaws.{length-bytes, bytes-at, byte-digits, record-entry, ones-past, rank-all}
-use Rattle.image.proofs.PartLaws.{row-length, row-cell, row-past, row-le, good-part, good-length, right-total, right-bits}
+use Rattle.image.proofs.WriteLaws.{length-bytes, bytes-at, byte-digits, ones-past, rank-all}
+use Rattle.image.proofs.PartLaws.{row-length, row-cell, row-past, row-le, good-part, good-length, right-total, right-entry, right-bits, bits-from}
 
 -- its number of ones, every entry, and zeros past its length
 pub record RightFacts (part : List ℕ) (n : ℕ) : Type 0 where
@@ -43,9 +44,7 @@ right-facts part n short right =
     let long = row-length part n in
     record {
       total = right-total part n short right ∙ ap (ones (cell t)) (sym long) ∙ sym (rank-all t (row-le part n));
-      entries = λ e l.
-          ap (λ (s : List ℕ). num s (headBytes + entryBytes * e) entryBytes) right
-          ∙ record-entry (num part 0 4) (num part 4 4) t (row-le part n) e (omega (arith, long)) (omega (arith, ap superblocksOf long));
+      entries = right-entry part n short right;
       padding = λ p h l. right-bits part n short right p l ∙ row-past part n p h;
     }
 
@@ -132,24 +131,17 @@ module _ (part : List ℕ) (n : ℕ) (good : goodPart part n ≡ true) (small : 
   no-right h = tells-right false (λ e. absurd (false≢true e)) (λ f. absurd (h f))
 
 -- ---- the inspection of a row
--- the bits from byte at + k on
-pub bits-from : (s : List ℕ) (at k p : ℕ) → bitFrom s (at + k) p ≡ bitFrom s at (8 * k + p)
-bits-from s at k p =
-    let i : at + k + p / 8 ≡ at + (8 * k + p) / 8 = omega arith in
-    let j : p % 8 ≡ (8 * k + p) % 8 = omega arith in
-    ap₂ (λ (x y : ℕ). bit (getD s x 0) y) i j
-
 -- the word of position p, shifted to it
 module _ (s : List ℕ) (start p x : ℕ) (bits : (q : ℕ) → q < 64 → bit x q ≡ bitFrom s (start + 8 * (p / 64)) q) where
   -- its bits from there on
   shifted : (q : ℕ) → p ≤ q → q < 64 * (p / 64 + 1) → bit (x / 2 ^ (p % 64)) (q - p) ≡ bitFrom s start q
   shifted q l h =
       let i : p % 64 + (q - p) ≡ q - 64 * (p / 64) = omega arith in
-      let j : 8 * (8 * (p / 64)) + (q - 64 * (p / 64)) ≡ q = omega arith in
+      let j : 64 * (p / 64) + (q - 64 * (p / 64)) ≡ q = omega arith in
       bit-shr x (p % 64) (q - p)
       ∙ ap (bit x) i
       ∙ bits (q - 64 * (p / 64)) (omega arith)
-      ∙ bits-from s start (8 * (p / 64)) (q - 64 * (p / 64))
+      ∙ bits-from s start (start + 8 * (p / 64)) (8 * (p / 64)) (64 * (p / 64)) (q - 64 * (p / 64)) refl (omega arith)
       ∙ ap (bitFrom s start) j
 
   -- no one is left: they are zero
@@ -175,21 +167,18 @@ pub block-more : (s block : List ℕ) (at j sum q : ℕ) → ((p : ℕ) → p < 
     → q ≡ ones (bitAt block) 512 → sum + q ≡ ones (bitFrom s at) (512 * (j + 1))
 block-more s block at j sum q bits before its =
     let e : 512 * j + 512 ≡ 512 * (j + 1) = omega arith in
-    let place : (p : ℕ) → 8 * (64 * j) + p ≡ 512 * j + p = λ p. omega arith in
     ap₂ (λ (x y : ℕ). x + y) before its
-    ∙ sym (part-ones (bitFrom s at) (bitAt block) (512 * j) 512 512 (λ p l. bits p l ∙ bits-from s at (64 * j) p ∙ ap (bitFrom s at) (place p)) (le-refl 512))
+    ∙ sym (part-ones (bitFrom s at) (bitAt block) (512 * j) 512 512
+    (λ p l. bits p l ∙ bits-from s at (at + 64 * j) (64 * j) (512 * j) p refl (omega arith)) (le-refl 512))
     ∙ ap (ones (bitFrom s at)) e
 
 -- the two halves of a number of 16 bytes are those of v exactly where it is v
 module _ (s : List ℕ) (at low high u w v : ℕ) (first : u ≡ num s at 8) (second : w ≡ num s (at + 8) 8) (is : low + 2 ^ 64 * high ≡ v) where
-  whole : u + 2 ^ 64 * w ≡ num s at 16
-  whole = ap₂ (λ (x y : ℕ). x + 2 ^ 64 * y) first second ∙ sym (num-split s at 8 8)
-
   pub halves-same : u ≡ low → w ≡ high → num s at 16 ≡ v
-  halves-same a b = sym whole ∙ ap₂ (λ (x y : ℕ). x + 2 ^ 64 * y) a b ∙ is
+  halves-same a b = sym (num-halves s at u w first second) ∙ ap₂ (λ (x y : ℕ). x + 2 ^ 64 * y) a b ∙ is
 
   pub same-halves : u < 2 ^ 64 → low < 2 ^ 64 → num s at 16 ≡ v → (u ≡ low) × (w ≡ high)
-  same-halves a b e = go u w low high a b (whole ∙ e ∙ sym is)
+  same-halves a b e = go u w low high a b (num-halves s at u w first second ∙ e ∙ sym is)
     where
       go : (x y i j : ℕ) → x < 2 ^ 64 → i < 2 ^ 64 → x + 2 ^ 64 * y ≡ i + 2 ^ 64 * j → (x ≡ i) × (y ≡ j)
       go x y i j l h k = (omega arith, omega arith)
@@ -218,22 +207,15 @@ module _ (part : List ℕ) (n e sum : ℕ) (counts : List ℕ) (at : ℕ) (x : S
   block-ends j l =
       ends j l
       ∙ ones-ext (bitFrom part at) (λ p. f (4096 * e + p)) (512 * (j + 1)) (λ p q.
-      let i : 8 * (512 * e) + p ≡ 4096 * e + p = omega arith in
-      ap (λ (k : ℕ). bitFrom part k p) there
-      ∙ bits-from part (bitsStart n) (512 * e) p
-      ∙ ap (bitFrom part (bitsStart n)) i
-      ∙ padded-bits part n (x .padding) (4096 * e + p) (omega arith))
+      bits-from part (bitsStart n) at (512 * e) (4096 * e) p there (omega arith) ∙ padded-bits part n (x .padding) (4096 * e + p) (omega arith))
 
   -- the ones before a block fit their 12 bits
   pub ends-lt : (j : ℕ) → j < 7 → getD counts j 0 < 4096
-  ends-lt j l = omega (arith, block-ends j (omega arith), ones-le (λ p. f (4096 * e + p)) (512 * (j + 1)) (λ p. row-le part n (4096 * e + p)))
+  ends-lt j l = omega (arith, block-ends j (omega arith), block-ones-lt (λ p. f (4096 * e + p)) j (λ p. row-le part n (4096 * e + p)) l)
 
   -- the entry that they make
-  entry-made : sum + 2 ^ 44 * digits (2 ^ 12) (λ j. getD counts j 0) 7 ≡ entryOf f e
-  unfolding entryOf
-  entry-made =
-      ap₂ (λ (y d : ℕ). y + 2 ^ 44 * d) (x .count)
-      (digits-ext (2 ^ 12) (λ j. getD counts j 0) (λ j. ones (λ p. f (4096 * e + p)) (512 * (j + 1))) 7 (λ j l. block-ends j (omega arith)))
+  own-entry : sum + 2 ^ 44 * digits (2 ^ 12) (λ j. getD counts j 0) 7 ≡ entryOf f e
+  own-entry = entry-made (λ p. f (4096 * e + p)) (λ j. getD counts j 0) sum (λ j l. block-ends j (omega arith)) ∙ entry-placed f e sum (x .count)
 
   -- the test of the entry that stands there
   module _ (t : Bool) (tested : t ≡ eqb (num part (16 + 16 * e) 16) (sum + 2 ^ 44 * digits (2 ^ 12) (λ j. getD counts j 0) 7)) where
@@ -241,7 +223,7 @@ module _ (part : List ℕ) (n e sum : ℕ) (counts : List ℕ) (at : ℕ) (x : S
     pub read-more : not t ≡ false → SuperblocksRead part n (e + 1) (sum + getD counts 7 0)
     read-more h =
         let i : 4096 * e + 4096 ≡ 4096 * (e + 1) = omega arith in
-        let is : num part (16 + 16 * e) 16 ≡ entryOf f e = eqb-true _ _ (sym tested ∙ not-false t h) ∙ entry-made in
+        let is : num part (16 + 16 * e) 16 ≡ entryOf f e = eqb-true _ _ (sym tested ∙ not-false t h) ∙ own-entry in
         record {
           within = omega arith;
           padding = x .padding;
@@ -252,7 +234,7 @@ module _ (part : List ℕ) (n e sum : ℕ) (counts : List ℕ) (at : ℕ) (x : S
 
     -- it is not: no right row
     pub read-wrong : not t ≡ true → RightFacts part n → ⊥
-    read-wrong h r = eqb-false _ _ (sym tested ∙ not-true t h) (r .entries e inside ∙ sym entry-made)
+    read-wrong h r = eqb-false _ _ (sym tested ∙ not-true t h) (r .entries e inside ∙ sym own-entry)
 
 -- at most as many ones as bits
 pub read-le : (part : List ℕ) (n e sum : ℕ) → SuperblocksRead part n e sum → sum ≤ 4096 * e

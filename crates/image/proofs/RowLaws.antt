@@ -1,7 +1,7 @@
 -- A row of an image by its label: the part that its record takes, and a reading of it as a reading of that part. Assumes nothing.
 use mathlib.Core.Path.{_≡_, refl, sym, ap, subst, _∙_}
 use mathlib.Core.Bool.{true}
-use mathlib.Core.List.{List, _∷_, _++_}
+use mathlib.Core.List.{List, [], _∷_, _++_}
 use mathlib.Core.Option.{Option, some, none}
 use Prim.Native.Nat.{ℕ, _≤_}
 use native.Mathlib.Omega.{arith}
@@ -9,19 +9,20 @@ use lib.ListN.{length, drop, length-drop}
 use lib.Seq.{length-take-le}
 use lib.Dec.{leb}
 use borrow.Author.Tests.{le-leb, eq-eqb}
-use Rattle.words.specs.Strip.{orElse}
+use Rattle.words.specs.Strip.{cell, rank, select, orElse}
 use Rattle.words.specs.declared.refusal.Refusal.{Refusal}
 use Rattle.words.specs.declared.refusal.Verdict.the-variants.{Refuse}
 use Rattle.words.specs.declared.refusal.Answer.{Answer}
 use Rattle.words.specs.declared.refusal.Answer.the-variants.{Value, Refused}
-use Rattle.words.specs.Refusals.{numberOf, Line, judge, unless, Told, refused, toldOf}
+use Rattle.words.specs.Refusals.{numberOf, Line, judge, unless, Told, value, refused, found, toldOf}
+use Rattle.words.specs.Calls.{valueLine, belowLine, withinLine, absentLine}
 use Rattle.words.proofs.CheckLaws.{judge-append}
-use Rattle.counters.specs.Promises.{Promise}
+use Rattle.counters.specs.Promises.{Promise, AtMost, Below}
 use Rattle.counters.proofs.PromiseLaws.{promise-refused}
 use Rattle.image.specs.Layout.{unitBytes, mostLabel, mostRow, sizeOf}
 use Rattle.image.specs.Chain.{labelAt, lengthAt, endAt}
-use Rattle.image.specs.Rows.{partAt}
-use Rattle.image.specs.Calls.{openTable, openTold, goodPart, partLine, rowPart, rowLength}
+use Rattle.image.specs.Rows.{partAt, rowBits, Right}
+use Rattle.image.specs.Calls.{openTable, openTold, goodPart, partLine, partGetTold, PartRanked, PartSelected, rowPart, rowLength, rowGetTold, RowRanked, RowSelected}
 use Rattle.image.proofs.NumberLaws.{num-taken}
 use Rattle.image.proofs.ChainLaws.{RecordFacts, opened, opened-value, opened-refused}
 
@@ -41,6 +42,10 @@ module _ (s : List ℕ) (at : ℕ) (f : RecordFacts s at) where
 
   pub part-length : lengthAt (partAt s at) 0 ≡ lengthAt s at
   part-length = num-taken s at (sizeOf (lengthAt s at)) 8 4 (omega arith)
+
+  -- so is the length that is read from it
+  pub part-held : (part : List ℕ) (n : ℕ) → part ≡ partAt s at → n ≡ lengthAt part 0 → n ≡ lengthAt s at
+  part-held part n p l = l ∙ ap (λ (q : List ℕ). lengthAt q 0) p ∙ part-length
 
   -- it is exactly one record with label and length in range
   pub part-good : goodPart (partAt s at) (lengthAt s at) ≡ true
@@ -105,12 +110,12 @@ row-held s label o at part n e d p l =
     record {
       passed = k .0;
       its = its;
-      long = l ∙ ap (λ (q : List ℕ). lengthAt q 0) its ∙ part-length s _ f;
+      long = part-held s _ f part n its l;
       good = part-good s _ f;
     }
 
 -- what a call tells of that part and length, it tells of the row
-pub row-told : {s : List ℕ} {label : ℕ} {part : List ℕ} {n : ℕ} → RowHeld s label part n → (T : List ℕ → ℕ → Option ℕ → Type 0) (rest : ℕ → List Line)
+row-told : {s : List ℕ} {label : ℕ} {part : List ℕ} {n : ℕ} → RowHeld s label part n → (T : List ℕ → ℕ → Option ℕ → Type 0) (rest : ℕ → List Line)
     → T part n (judge (partLine part n ∷ rest n)) → T (rowPart s label) (rowLength s label) (judge (openTable s label ++ rest (rowLength s label)))
 row-told {s} {label} {part} {n} h T rest t =
     let p : List ℕ = rowPart s label in
@@ -118,3 +123,18 @@ row-told {s} {label} {part} {n} h T rest t =
     subst (T p m) (sym (table-opened s label p m (rest m) (h .passed) (h .good)))
     (subst (λ (k : ℕ). T p k (judge (partLine p k ∷ rest k))) (h .long)
     (subst (λ (q : List ℕ). T q n (judge (partLine q n ∷ rest n))) (h .its) t))
+
+-- look
+pub row-look : {s : List ℕ} {label : ℕ} {part : List ℕ} {n : ℕ} → RowHeld s label part n → (i : ℕ) → partGetTold part n i ≡ rowGetTold s label i
+row-look {part = part} {n = n} h i =
+    row-told h (λ p m o. partGetTold part n i ≡ unless o refused (value (cell (rowBits p m) i))) (λ m. belowLine m i ∷ []) refl
+
+-- count
+pub row-count : {s : List ℕ} {label : ℕ} {part : List ℕ} {n : ℕ} → RowHeld s label part n → (v i : ℕ) (t : Told) → PartRanked part n v i t → RowRanked s label v i t
+row-count h v i t =
+    row-told h (λ p m o. Promise Told o refused (value (rank (rowBits p m) v i)) (Right p m) (AtMost 15 i) t) (λ m. valueLine v ∷ withinLine m i ∷ [])
+
+-- find
+pub row-find : {s : List ℕ} {label : ℕ} {part : List ℕ} {n : ℕ} → RowHeld s label part n → (v k : ℕ) (t : Told) → PartSelected part n v k t → RowSelected s label v k t
+row-find h v k t =
+    row-told h (λ p m o. Promise Told o refused (found (select (rowBits p m) v k)) (Right p m) (Below 15 m) t) (λ m. valueLine v ∷ absentLine m k ∷ [])

@@ -3,7 +3,7 @@ use mathlib.Core.Path.{_≡_, refl, sym, ap, ap₂, _∙_, subst}
 use mathlib.Core.Logic.{⊎-elim}
 use mathlib.Core.List.{List, [], _∷_, _++_, append-assoc, append-nil}
 use Prim.Native.Nat.{ℕ, zero, suc, min, _+_, _-_, _*_, _/_, _%_, _^_, _≤_, _<_}
-use native.Mathlib.Nat.{one-mul, mod-lt, mod-eq-of-lt, zero-lt-suc, pow-zero, pow-succ', mul-suc, mul-zero, mul-le-mul-left}
+use native.Mathlib.Nat.{one-mul, mod-lt, mod-eq-of-lt, zero-lt-suc, pow-zero, pow-succ', mul-suc, mul-le-mul-left}
 use native.Mathlib.Omega.{arith}
 use lib.Arith as A
 use lib.Bits.{bitAnd, and-mask}
@@ -18,12 +18,13 @@ use Rattle.words.proofs.BitLaws.{bit-shr, bit-mod, bit-high}
 use Rattle.words.proofs.WordLaws.{word-bit, bitAt-le}
 use Rattle.words.proofs.DigitLaws.{field, digits-ext, digits-at, digits-of}
 use Rattle.words.proofs.SearchLaws.{rank-ones}
-use Rattle.words.proofs.StripLaws.{strip-cell, strip-length}
+use Rattle.words.proofs.StripLaws.{strip-cell}
 use Rattle.image.specs.Bytes.{num, le, bitFrom}
 use Rattle.image.specs.Layout.{superblocksOf, bitsStart, sizeOf, superblockEntry, entryOf, entriesFrom, bytesOf, recordOf, kind}
 use Rattle.image.specs.Rows.{rowBits, Right}
 use Rattle.image.specs.Chain.{headerOf}
 use Rattle.image.specs.Writing.{wordBits, BitsPut, SuperblockPut, RowPut}
+use Rattle.image.proofs.EntryLaws.{block-ones-lt, entry-made, entry-placed}
 use Rattle.image.proofs.PutLaws.{length-le, le-small, num-of, sets-join, sets-comm, sets-front, put-join}
 
 -- ---- lists by their elements
@@ -46,6 +47,15 @@ listOf-append f (suc m) n =
     ∙ ap (λ (l : List ℕ). f 0 ∷ l)
     (listOf-append (λ i. f (suc i)) m n
     ∙ ap (λ (l : List ℕ). listOf (λ i. f (suc i)) m ++ l) (listOf-ext (λ i. f (suc (m + i))) (λ i. f (suc m + i)) n (λ i l. ap f (omega arith))))
+
+-- past the end there is 0
+pub listOf-past : (f : ℕ → ℕ) (n i : ℕ) → n ≤ i → getD (listOf f n) i 0 ≡ 0
+listOf-past f n i h = List·getD-eq-default (listOf f n) 0 {n = i} (omega (arith, length-listOf f n))
+
+-- what holds of all f and of 0 holds at every place
+pub listOf-all : (P : ℕ → Type 0) (f : ℕ → ℕ) (n : ℕ) → ((i : ℕ) → P (f i)) → P 0 → (i : ℕ) → P (getD (listOf f n) i 0)
+listOf-all P f n h z i =
+    ⊎-elim (λ l. subst P (sym (getD-listOf f n i l)) (h i)) (λ l. subst P (sym (listOf-past f n i l)) z) (lt-or i n)
 
 -- ---- a byte of bits
 -- digits are below the power of their base
@@ -103,14 +113,8 @@ bytes-bit f n p h l =
 
 -- each is a byte
 pub bytes-small : (f : ℕ → ℕ) (n i : ℕ) → ((q : ℕ) → f q ≤ 1) → getD (bytesOf f n) i 0 < 256
-bytes-small f n i h = ⊎-elim inside past (lt-or i n)
-  where
-    inside : i < n → getD (bytesOf f n) i 0 < 256
-    inside l =
-        subst (λ (x : ℕ). x < 256) (sym (bytes-at f n i l)) (digits-lt 2 (λ j. f (8 * i + j)) 8 (λ j k. omega (arith, h (8 * i + j))))
-
-    past : n ≤ i → getD (bytesOf f n) i 0 < 256
-    past l = subst (λ (x : ℕ). x < 256) (sym (List·getD-eq-default (bytesOf f n) 0 {n = i} (omega (arith, length-bytes f n)))) (lit< tt)
+bytes-small f n i h =
+    listOf-all (λ x. x < 256) (λ b. digits 2 (λ j. f (8 * b + j)) 8) n (λ b. digits-lt 2 (λ j. f (8 * b + j)) 8 (λ j k. omega (arith, h (8 * b + j)))) (lit< tt) i
 
 -- the low bytes of a number are the bytes of its bits
 pub le-bytes : (n x : ℕ) (f : ℕ → ℕ) → ((p : ℕ) → p < 8 * n → bit x p ≡ f p) → le n x ≡ bytesOf f n
@@ -157,7 +161,7 @@ unfolding entryOf
 entry-lt f e b h =
     let g : ℕ → ℕ = λ j. ones (λ p. f (4096 * e + p)) (512 * (j + 1)) in
     go (ones f (4096 * e)) (digits (2 ^ 12) g 7) (omega (arith, ones-le f (4096 * e) b))
-    (digits-lt (2 ^ 12) g 7 (λ i l. omega (arith, ones-le (λ p. f (4096 * e + p)) (512 * (i + 1)) (λ p. b (4096 * e + p)))))
+    (digits-lt (2 ^ 12) g 7 (λ i l. block-ones-lt (λ p. f (4096 * e + p)) i (λ p. b (4096 * e + p)) l))
   where
     go : (a d : ℕ) → a < 2 ^ 44 → d < 2 ^ 84 → a + 2 ^ 44 * d < 2 ^ 128
     go a d h k =
@@ -234,19 +238,9 @@ rank-all t h =
     let e : min (length t) (length t) ≡ length t = omega arith in
     ap (rankOf (cell t) 1) e ∙ rank-ones (cell t) (length t) h
 
--- past its length a strip holds zeros
-pub strip-past : (ws : List ℕ) (n p : ℕ) → n ≤ p → cell (stripOf ws n) p ≡ 0
-strip-past ws n p h = List·getD-eq-default (stripOf ws n) 0 {n = p} (omega (arith, strip-length ws n))
-
--- its cells are bits
+-- the cells of a strip are bits
 pub strip-le : (ws : List ℕ) (n p : ℕ) → cell (stripOf ws n) p ≤ 1
-strip-le ws n p = ⊎-elim inside past (lt-or p n)
-  where
-    inside : p < n → cell (stripOf ws n) p ≤ 1
-    inside l = omega (arith, strip-cell ws n p l, bitAt-le ws p)
-
-    past : n ≤ p → cell (stripOf ws n) p ≤ 1
-    past l = omega (arith, strip-past ws n p l)
+strip-le ws n = listOf-all (λ x. x ≤ 1) (bitAt ws) n (bitAt-le ws) (omega arith)
 
 -- ---- a record
 module _ (x l : ℕ) (t : List ℕ) where
@@ -369,7 +363,7 @@ module _ (x l : ℕ) (t : List ℕ) where
 module _ (ws : List ℕ) (n w p : ℕ) where
   -- past the length
   pub word-none : n ≤ 64 * w → bit 0 p ≡ cell (stripOf ws n) (64 * w + p)
-  word-none h = bit-high 0 0 p (zero-lt-suc 0) (omega arith) ∙ sym (strip-past ws n (64 * w + p) (omega arith))
+  word-none h = bit-high 0 0 p (zero-lt-suc 0) (omega arith) ∙ sym (listOf-past (bitAt ws) n (64 * w + p) (omega arith))
 
   -- before it
   pub word-all : 64 * w + 64 ≤ n → p < 64 → bit (getD ws w 0) p ≡ cell (stripOf ws n) (64 * w + p)
@@ -382,7 +376,7 @@ module _ (ws : List ℕ) (n w p : ℕ) where
       ap (λ (y : ℕ). bit y p) (and-mask x m)
       ∙ ⊎-elim
       (λ q. bit-mod x m p q ∙ sym (strip-cell ws n (64 * w + p) (omega arith) ∙ word-bit ws w p l))
-      (λ q. bit-high (x % 2 ^ m) m p (mod-lt x (pow-pos m)) q ∙ sym (strip-past ws n (64 * w + p) (omega arith)))
+      (λ q. bit-high (x % 2 ^ m) m p (mod-lt x (pow-pos m)) q ∙ sym (listOf-past (bitAt ws) n (64 * w + p) (omega arith)))
       (lt-or p m)
 
 -- the first k words vs hold the bits f
@@ -508,26 +502,12 @@ blocks-done g at s t counts sum j x h =
     let e : 64 * j ≡ 512 = omega (arith, x .within) in
     (bits-size g at s t (64 * j) 512 sum (x .put) e .same, x .long, λ i l. x .ends i (omega arith))
 
--- ---- an entry from its eight numbers
--- seven digits
-digits-seven : (b : ℕ) (g : ℕ → ℕ) → digits b g 7 ≡ g 0 + b * (g 1 + b * (g 2 + b * (g 3 + b * (g 4 + b * (g 5 + b * g 6)))))
-unfolding digits
-digits-seven b g =
-    let e : g 6 + b * 0 ≡ g 6 = omega (arith, mul-zero b) in
-    ap (λ (x : ℕ). g 0 + b * (g 1 + b * (g 2 + b * (g 3 + b * (g 4 + b * (g 5 + b * x)))))) e
-
--- the ones before the superblock, then seven digits
-pub entry-is : (g : ℕ → ℕ) (w sum : ℕ) → w ≡ sum + 2 ^ 44 * (g 0 + 4096 * (g 1 + 4096 * (g 2 + 4096 * (g 3 + 4096 * (g 4 + 4096 * (g 5 + 4096 * g 6))))))
-    → w ≡ sum + 2 ^ 44 * digits (2 ^ 12) g 7
-entry-is g w sum h = h ∙ ap (λ (d : ℕ). sum + 2 ^ 44 * d) (sym (digits-seven (2 ^ 12) g))
-
 -- ---- a superblock stored: its entry in two halves, its bits through the scratch array
 pub superblock-stored : (g : ℕ → ℕ) (sum a b low high : ℕ) (s s1 s2 s3 bytes counts : List ℕ) → bytes ≡ bytesOf g 512
     → ((j : ℕ) → j < 8 → getD counts j 0 ≡ ones g (512 * (j + 1))) → low + 2 ^ 64 * high ≡ sum + 2 ^ 44 * digits (2 ^ 12) (λ j. getD counts j 0) 7 → low < 2 ^ 64
     → s1 ≡ sets s a (le 8 low) → s2 ≡ sets s1 (a + 8) (le 8 high) → s3 ≡ sets s2 b bytes → SuperblockPut g sum a b s s3 (sum + getD counts 7 0)
 superblock-stored g sum a b low high s s1 s2 s3 bytes counts is ends entry small h1 h2 h3 =
-    let word : low + 2 ^ 64 * high ≡ superblockEntry g sum =
-    entry ∙ ap (λ (d : ℕ). sum + 2 ^ 44 * d) (digits-ext (2 ^ 12) (λ j. getD counts j 0) (λ j. ones g (512 * (j + 1))) 7 (λ j l. ends j (omega arith))) in
+    let word : low + 2 ^ 64 * high ≡ superblockEntry g sum = entry ∙ entry-made g (λ j. getD counts j 0) sum (λ j l. ends j (omega arith)) in
     record {
       same =
           h3
@@ -540,28 +520,17 @@ superblock-stored g sum a b low high s s1 s2 s3 bytes counts is ends entry small
 pub superblock-ext : (f g : ℕ → ℕ) (sum a b : ℕ) (s t : List ℕ) (r : ℕ) → SuperblockPut f sum a b s t r → ((p : ℕ) → p < 4096 → f p ≡ g p) → SuperblockPut g sum a b s t r
 superblock-ext f g sum a b s t r x h =
     let entry : superblockEntry f sum ≡ superblockEntry g sum =
-    ap (λ (d : ℕ). sum + 2 ^ 44 * d)
-    (digits-ext (2 ^ 12) (λ j. ones f (512 * (j + 1))) (λ j. ones g (512 * (j + 1))) 7 (λ j l. ones-ext f g (512 * (j + 1)) (λ p q. h p (omega arith)))) in
+    entry-made g (λ j. ones f (512 * (j + 1))) sum (λ j l. ones-ext f g (512 * (j + 1)) (λ p q. h p (omega arith))) in
     record {
       same = x .same ∙ ap₂ (λ (v : ℕ) (l : List ℕ). sets (sets s a (le 16 v)) b l) entry (bytes-ext f g 512 h);
       count = x .count ∙ ap (λ (c : ℕ). sum + c) (ones-ext f g 4096 h);
     }
-
--- the length stays
-pub superblock-length : (g : ℕ → ℕ) (sum a b : ℕ) (s t : List ℕ) (r : ℕ) → SuperblockPut g sum a b s t r → length t ≡ length s
-superblock-length g sum a b s t r x =
-    ap length (x .same) ∙ length-sets (sets s a (le 16 (superblockEntry g sum))) b (bytesOf g 512) ∙ length-sets s a (le 16 (superblockEntry g sum))
 
 -- ---- superblocks stored one after another
 -- nothing is stored yet
 pub row-none : (f : ℕ → ℕ) (a b : ℕ) (s : List ℕ) → RowPut f 0 a b s s 0
 unfolding entriesFrom listOf
 row-none f a b s = record { same = refl; count = sym (ones-zero f) }
-
--- an entry by its own superblock
-entry-superblock : (f : ℕ → ℕ) (e : ℕ) → superblockEntry (λ p. f (4096 * e + p)) (ones f (4096 * e)) ≡ entryOf f e
-unfolding entryOf
-entry-superblock f e = refl
 
 -- one superblock more
 pub row-more : (f : ℕ → ℕ) (e a b : ℕ) (s t u : List ℕ) (sum r : ℕ) → RowPut f e a b s t sum → SuperblockPut (λ p. f (4096 * e + p)) sum (a + 16 * e) (b + 512 * e) t u r
@@ -572,7 +541,7 @@ row-more f e a b s t u sum r x y far =
     let B : List ℕ = bytesOf g 512 in
     let ES : List ℕ = entriesFrom f 0 e in
     let BS : List ℕ = bytesOf f (512 * e) in
-    let entry : superblockEntry g sum ≡ entryOf f e = ap (superblockEntry g) (x .count) ∙ entry-superblock f e in
+    let entry : superblockEntry g sum ≡ entryOf f e = entry-placed f e sum (x .count) in
     let z : 0 + e ≡ e = omega arith in
     let entries : ES ++ E ≡ entriesFrom f 0 (e + 1) =
     sym (entries-append f 0 e 1 ∙ ap (λ (l : List ℕ). ES ++ l) (ap (λ (k : ℕ). entriesFrom f k 1) z ∙ entries-one f e)) in
@@ -641,6 +610,18 @@ record-stored t n label total at b s s1 s2 s3 s4 s5 long bits place row h2 h3 h4
     ∙ ap₂ (λ (m c : ℕ). sets s at (A ++ (B ++ (le 4 m ++ (le 4 c ++ (entriesFrom (cell t) 0 (superblocksOf m) ++ bytesOf (cell t) (512 * superblocksOf m))))))) (sym long) sum
 
 -- ---- the header of an image
+-- it has one unit
+pub length-header : (first : ℕ) → length (headerOf first) ≡ 16
+length-header first =
+    omega (
+      arith,
+      length-append (le 4 first) (le 4 kind ++ le 8 0),
+      length-append (le 4 kind) (le 8 0),
+      length-le 4 first,
+      length-le 4 kind,
+      length-le 8 0,
+    )
+
 -- its three numbers stored, and the rest as it was
 pub header-stored : (s t u v : List ℕ) (x : ℕ) → 16 ≤ length s → t ≡ sets s 0 (le 4 x) → u ≡ sets t 4 (le 4 kind) → v ≡ sets u 8 (le 8 0)
     → v ≡ headerOf x ++ drop 16 s
@@ -648,7 +629,7 @@ header-stored s t u v x h et eu ev =
     let A : List ℕ = le 4 x in
     let B : List ℕ = le 4 kind in
     let C : List ℕ = le 8 0 in
-    let long : length (A ++ (B ++ C)) ≡ 16 = omega (arith, length-append A (B ++ C), length-append B C, length-le 4 x, length-le 4 kind, length-le 8 0) in
+    let long : length (A ++ (B ++ C)) ≡ 16 = length-header x in
     ev ∙ ap (λ (l : List ℕ). sets l 8 C) (eu ∙ ap (λ (l : List ℕ). sets l 4 B) et)
     ∙ sets-join B C (sets s 0 A) 4 8 (omega (arith, length-le 4 kind))
     ∙ sets-join A (B ++ C) s 0 4 (omega (arith, length-le 4 x))

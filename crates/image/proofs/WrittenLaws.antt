@@ -22,11 +22,12 @@ use Rattle.image.specs.Chain.{headerOf, nextAt, labelAt, lengthAt, endAt
 use Rattle.image.specs.Rows.{partAt, rowBits, Right}
 use Rattle.image.specs.Written.{Labelled, unitsOf, indexFor, recordsFrom, imageOf, written, sizesOf, rowOf}
 use Rattle.image.specs.Calls.{isSome, recordsIn, recordsOf, recordWith, rowPart, rowLength, frozen, freezeTable, imageOutcome, freezeOutcome}
+use Rattle.image.specs.Frozen.{GivesBack}
 use Rattle.image.proofs.ChainLaws.{RecordFacts, Links, links-end, links-more, links-chain, link-last, Found, place-found, found-placed, chain-facts, label-good}
 use Rattle.image.proofs.PutLaws.{length-le, num-ext}
-use Rattle.image.proofs.WriteLaws.{piece-after, piece-at, piece-small, record-length, record-next, record-label, record-long, record-bits, record-right, strip-le}
+use Rattle.image.proofs.WriteLaws.{piece-after, piece-at, piece-small, length-header, record-front, record-length, record-next, record-label, record-long, record-bits, record-right, strip-le}
 use Rattle.image.proofs.FreezeLaws.{none-in, freezing}
-use Rattle.image.proofs.FrozenLaws.{GivesBack, gives-back, open-passes}
+use Rattle.image.proofs.FrozenLaws.{gives-back, open-passes}
 
 -- ---- sizes
 -- records are whole units
@@ -54,18 +55,6 @@ length-records u (r ∷ rs) =
     let next : ℕ = indexFor (u + unitsOf r) rs in
     length-append (recordOf next (r .label) (r .bits)) (recordsFrom (u + unitsOf r) rs)
     ∙ ap₂ (λ (x y : ℕ). x + y) (record-length next (r .label) (r .bits)) (length-records (u + unitsOf r) rs)
-
--- the header has one unit
-pub length-header : (first : ℕ) → length (headerOf first) ≡ 16
-length-header first =
-    omega (
-      arith,
-      length-append (le 4 first) (le 4 kind ++ le 8 0),
-      length-append (le 4 kind) (le 8 0),
-      length-le 4 first,
-      length-le 4 kind,
-      length-le 8 0,
-    )
 
 -- rows written out: 16 bytes and the records' sizes
 pub length-image : (rs : List Labelled) → length (imageOf rs) ≡ 16 + sizesOf rs
@@ -457,14 +446,6 @@ module _ (rs : List Labelled) (base : List ℕ) (g : Good rs base) where
       go neither = refl
       go (both x) = refl
 
-  -- no row, no record
-  pub written-absent : (label : ℕ) → rowOf label rs ≡ none → recordWith image label ≡ none
-  written-absent label e = go (paired label) e
-    where
-      go : {o : Option ℕ} {p : Option Labelled} → Paired image o p → p ≡ none → o ≡ none
-      go neither e = refl
-      go (both x) e = let z : _≡_ {A = ℕ} 0 1 = cc in absurd (omega arith)
-
   -- a row, by its label
   pub written-with : (label : ℕ) (r : Labelled) → rowOf label rs ≡ some r → RowWith image label r
   written-with label r e = go (recordWith image label) (rowOf label rs) refl e (paired label)
@@ -473,12 +454,7 @@ module _ (rs : List Labelled) (base : List ℕ) (g : Good rs base) where
       go none none d e neither = let z : _≡_ {A = ℕ} 0 1 = cc in absurd (omega arith)
       go (some a) (some q) d e (both x) = let z : q ≡ r = cc in row-with image label r a d (subst (RowAt image a) z x)
 
--- the index that ends the chain: of no record, in the header
-pub link-none : linkOf (places 1 []) ≡ 0
-unfolding places linkOf
-link-none = refl
-
--- of records, in the last, which starts where the rows before it end
+-- the index that ends the chain is in the last record, which starts where the rows before it end
 pub link-more : (rs : List Labelled) (r : Labelled) → linkOf (places 1 (rs ++ (r ∷ []))) ≡ length (imageOf rs)
 link-more rs r = ap linkOf (places-last 1 rs r) ∙ link-last (places 1 rs) (unitBytes * 1 + sizesOf rs) ∙ sym (length-image rs)
 
@@ -533,11 +509,6 @@ length-front xs y =
 abbrev afterNext : Labelled → List ℕ
 afterNext r = drop 4 (recordOf 0 (r .label) (r .bits))
 
--- whatever that index is
-record-split : (next : ℕ) (r : Labelled) → recordOf next (r .label) (r .bits) ≡ le 4 next ++ afterNext r
-unfolding recordOf le
-record-split next r = refl
-
 -- the index that ends the chain, between two parts of the rows written out: one row more replaces it and follows them
 record Ending (rs : List Labelled) (r : Labelled) : Type 0 where
   front : List ℕ
@@ -576,12 +547,12 @@ ending-last qs q r =
       front = frontOf qs;
       back = afterNext q;
       at = length-front qs q ∙ sym (link-more qs q ∙ length-image qs);
-      same = written-append qs q [] ∙ ap (λ (l : List ℕ). frontOf qs ++ l) (append-nil (recordOf 0 (q .label) (q .bits)) ∙ record-split 0 q);
+      same = written-append qs q [] ∙ ap (λ (l : List ℕ). frontOf qs ++ l) (append-nil (recordOf 0 (q .label) (q .bits)) ∙ record-front 0 (q .label) (q .bits) 0);
       more =
           ap imageOf (append-assoc qs (q ∷ []) (r ∷ []))
           ∙ written-append qs q (r ∷ [])
           ∙ ap (λ (l : List ℕ). frontOf qs ++ l)
-          (ap₂ (λ (x y : List ℕ). x ++ y) (record-split w q) (append-nil own)
+          (ap₂ (λ (x y : List ℕ). x ++ y) (record-front 0 (q .label) (q .bits) w) (append-nil own)
           ∙ append-assoc (le 4 w) (afterNext q) own
           ∙ ap (λ (k : ℕ). le 4 k ++ (afterNext q ++ own)) e);
     }

@@ -4,6 +4,7 @@ pub mod Chain
 pub mod Rows
 pub mod Written
 pub mod Calls
+pub mod Frozen
 pub mod Walk
 pub mod Writing
 pub mod Reading

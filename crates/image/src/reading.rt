@@ -140,12 +140,9 @@ fn block_with(part: &[u8], count: usize, v: u64, k: usize) -> usize
 
 // The position of the k-th v of a row, k from 0, or n where the entries lead nowhere.
 pub fn part_position(part: &[u8], n: usize, v: u64, k: usize) -> usize
-    requires { ⌜ (length (now part) ≡ sizeOf n) × (n ≤ 134217728) × (v ≤ 1) ⌝ }
+    requires { ⌜ (length (now part) ≡ sizeOf n) × (0 < n) × (n ≤ 134217728) × (v ≤ 1) ⌝ }
     ensures { λ r. ⌜ (r ≤ n) × (Right (now (part .entry)) n → k < rankOf (cell (rowBits (now (part .entry)) n)) v n → r ≡ placeIn n (selectOf (cell (rowBits (now (part .entry)) n)) n v k)) ⌝ }
 {
-    if n == 0 {
-        return n;
-    }
     let m = block_with(part, (n + (BLOCK_BITS - 1)) / BLOCK_BITS, v, k);
     let said = entry_values(part, v, m);
     if k < said {

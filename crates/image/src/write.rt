@@ -126,30 +126,31 @@ pub fn entry_halves(sum: usize, counts: [usize; 8]) -> Halves
 }
 
 // The superblock of the 64 words from word w on: its entry from byte a on, its bits from byte b on. `sum` ones lie before it; answers the ones up to
-// its end. The bits pass through a scratch array.
+// its end. The bits pass through the scratch array.
 fn write_superblock(
     image: &mut [u8],
+    scratch: &mut [u8],
     a: usize,
     b: usize,
     words: &[u64],
     w: usize,
     sum: usize,
 ) -> usize
-    requires { ⌜ (a + 16 ≤ b) × (b + 512 ≤ length (now image)) × (w + 64 ≤ length (now words)) × (sum ≤ 134217728) ⌝ }
+    requires { ⌜ (a + 16 ≤ b) × (b + 512 ≤ length (now image)) × (length (now scratch) ≡ 512) × (w + 64 ≤ length (now words)) × (sum ≤ 134217728) ⌝ }
     ensures { λ r. ⌜ SuperblockPut (wordBits (now (words .entry)) w) sum a b (now (image .entry)) (now (image .exit)) r ⌝ }
 {
-    let mut scratch = [0u8; SUPERBLOCK_BYTES];
-    let counts = put_superblock(&mut scratch, 0, words, w);
+    let counts = put_superblock(scratch, 0, words, w);
     let halves = entry_halves(sum, counts);
     put_word(image, a, halves.low);
     put_word(image, a + 8, halves.high);
-    put_bytes(image, b, &scratch);
+    put_bytes(image, b, scratch, SUPERBLOCK_BYTES);
     sum + counts[7]
 }
 
 // The same for superblock e of the first n bits of the words. Where they end inside it, its words are first made zero past them.
 fn write_strip_superblock(
     image: &mut [u8],
+    scratch: &mut [u8],
     a: usize,
     b: usize,
     words: &[u64],
@@ -157,25 +158,27 @@ fn write_strip_superblock(
     e: usize,
     sum: usize,
 ) -> usize
-    requires { ⌜ (a + 16 ≤ b) × (b + 512 ≤ length (now image)) × (n ≤ 64 * length (now words)) × (n ≤ 134217728) × (e < 32768) × (sum ≤ 134217728) ⌝ }
+    requires { ⌜ (a + 16 ≤ b) × (b + 512 ≤ length (now image)) × (length (now scratch) ≡ 512) × (n ≤ 64 * length (now words)) × (n ≤ 134217728) × (e < 32768) × (sum ≤ 134217728) ⌝ }
     ensures { λ r. ⌜ SuperblockPut (λ p. cell (stripOf (now (words .entry)) n) (4096 * e + p)) sum a b (now (image .entry)) (now (image .exit)) r ⌝ }
 {
     if SUPERBLOCK_BITS * (e + 1) <= n {
-        return write_superblock(image, a, b, words, 64 * e, sum);
+        return write_superblock(image, scratch, a, b, words, 64 * e, sum);
     }
     let tail = last_words(words, 64 * e, n);
-    write_superblock(image, a, b, &tail, 0, sum)
+    write_superblock(image, scratch, a, b, &tail, 0, sum)
 }
 
-// The entries from byte a on and the bits from byte b on, of the first n bits of the words. Answers their ones.
+// The entries from byte a on and the bits from byte b on, of the first n bits of the words, through one scratch array. Answers their ones.
 fn write_superblocks(image: &mut [u8], a: usize, b: usize, words: &[u64], n: usize) -> usize
     requires { ⌜ (b ≡ a + 16 * superblocksOf n) × (b + 512 * superblocksOf n ≤ length (now image)) × (n ≤ 64 * length (now words)) × (n ≤ 134217728) ⌝ }
     ensures { λ r. ⌜ RowPut (cell (stripOf (now (words .entry)) n)) (superblocksOf n) a b (now (image .entry)) (now (image .exit)) r ⌝ }
 {
+    let mut scratch = [0u8; SUPERBLOCK_BYTES];
     let mut sum: usize = 0;
     for e in 0..superblocks_of(n) {
         sum = write_strip_superblock(
             image,
+            &mut scratch,
             a + ENTRY_BYTES * e,
             b + SUPERBLOCK_BYTES * e,
             words,

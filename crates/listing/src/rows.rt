@@ -61,7 +61,7 @@ fn put_refused(out: &mut [u8], r: Refusal) -> usize
     ensures { λ e. ⌜ Put (now (out .entry)) 0 (refusedLine (numberOf r)) (now (out .exit)) e ⌝ }
 {
     let word = b"refused ";
-    put_bytes(out, 0, word);
+    put_bytes(out, 0, word, word.len());
     put_ended(out, word.len(), number(r), b'\n')
 }
 
@@ -71,7 +71,7 @@ fn put_too_long(out: &mut [u8]) -> usize
     ensures { λ r. ⌜ Put (now (out .entry)) 0 tooLongLine (now (out .exit)) r ⌝ }
 {
     let line = b"too long\n";
-    put_bytes(out, 0, line);
+    put_bytes(out, 0, line, line.len());
     line.len()
 }
 

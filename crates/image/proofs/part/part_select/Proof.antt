@@ -81,7 +81,7 @@ returns-5 c =
 part-position-requires : tie.Need-part-position-requires
 part-position-requires c κs =
     let e = c .before .before .before .before in
-    (known e .1, known e .2, e .before .if2 .left)
+    (known e .1, omega (arith, e .if3 .left), known e .2, e .before .if2 .left)
 
 returns-6 : tie.Need-returns-6
 returns-6 c =

@@ -8,10 +8,10 @@ use Rattle.image.proofs.put.put_bytes.Statement.{statement}
 use Rattle.image.proofs.put.put_bytes.Tie as tie
 
 abbrev Inv-loop : tie.InvT-loop
-Inv-loop s₀ at b i₀ i-end s i = Copying s₀ at b s i
+Inv-loop s₀ at b n i₀ s i = Copying s₀ at b s i
 
 abbrev μ-loop : tie.MeasureT-loop
-μ-loop s₀ at b i₀ i-end s i = length b - i
+μ-loop s₀ at b n i₀ s i = length b - i
 
 loop-holds : tie.Need-loop-holds Inv-loop μ-loop
 loop-holds c = copying-none _ _ _

@@ -7,19 +7,11 @@ use borrow.Author.Needs.{needs}
 use Rattle.words.specs.Bits.{bitAt}
 use Rattle.words.specs.Strip.{rankOf, selectOf}
 use Rattle.words.specs.Words.{placeIn}
-use Rattle.words.proofs.SearchLaws.{select-le, rank-le}
+use Rattle.words.proofs.SearchLaws.{select-le}
 use Rattle.image.specs.Rows.{Right}
 use Rattle.image.proofs.PartLaws.{entry-inside, bytes-inside, bitsOf, right-indexed, told-le, told-above, place-there}
 use Rattle.image.proofs.reading.part_position.Statement.{statement}
 use Rattle.image.proofs.reading.part_position.Tie as tie
-
-returns : tie.Need-returns
-returns c =
-    let a = c .before .before .args in (
-      le-refl (a .n),
-      λ right few.
-          absurd (omega (arith, rank-le (bitsOf (a .part .now) (a .n)) (a .v) (a .n))),
-    )
 
 sub-block-with : tie.Need-sub-block-with
 sub-block-with c = search needs
@@ -32,23 +24,23 @@ block-with-requires c κs = search needs
 
 entry-values-requires : tie.Need-entry-values-requires
 entry-values-requires c κs =
-    let a = c .before .before .before .args in
+    let a = c .before .before .args in
     let m = c .block-with in
     omega (arith, m .ensures .0, entry-inside 4096 (omega arith) (a .n) 16 (m .result / 8) (omega (arith, m .ensures .0)))
 
 -- of a right row, the block has at most k of v before it
-low : (c : tie.After-entry-values) → Right (c .before .before .before .before .args .part .now) (c .before .before .before .before .args .n)
-    → c .entry-values .result ≤ c .before .before .before .before .args .k
+low : (c : tie.After-entry-values) → Right (c .before .before .before .args .part .now) (c .before .before .before .args .n)
+    → c .entry-values .result ≤ c .before .before .before .args .k
 low c right =
-    let a = c .before .before .before .before .args in
+    let a = c .before .before .before .args in
     let m = c .before .block-with in
     subst (λ (x : ℕ). x ≤ a .k) (sym (c .entry-values .ensures))
     (told-le _ _ _ _ _ _ (right-indexed (a .part .now) (a .n) (omega arith) right) (m .result) (a .v) (a .k) ((a .n + 511) / 512) (omega arith) (omega (arith, m .ensures .0)) (m .ensures .1))
 
-returns-2 : tie.Need-returns-2
-returns-2 c =
-    let a = c .before .before .before .before .before .args in
-    (le-refl (a .n), λ right few. absurd (omega (arith, low (c .before) right, c .if2 .taken)))
+returns : tie.Need-returns
+returns c =
+    let a = c .before .before .before .before .args in
+    (le-refl (a .n), λ right few. absurd (omega (arith, low (c .before) right, c .if1 .taken)))
 
 bits-start-requires : tie.Need-bits-start-requires
 bits-start-requires c κs = search needs
@@ -61,7 +53,7 @@ add-block-at c = search needs
 
 block-at-requires : tie.Need-block-at-requires
 block-at-requires c κs =
-    let a = c .before .before .before .before .before .before .args in
+    let a = c .before .before .before .before .before .args in
     let m = c .before .before .before .block-with in
     omega (arith, c .bits-start .ensures .0, m .ensures .0, bytes-inside 4096 (omega arith) (a .n) 16 512 (64 * m .result + 64) refl (omega (arith, m .ensures .0)))
 
@@ -73,13 +65,13 @@ block-select-requires c κs = search needs
 
 -- and the position in its block is that in the row
 place : (c : tie.After-block-select)
-    → let a = c .before .before .before .before .before .before .before .before .before .args in
+    → let a = c .before .before .before .before .before .before .before .before .args in
     let m = c .before .before .before .before .before .before .block-with .result in
     Right (a .part .now) (a .n) → a .k < rankOf (bitsOf (a .part .now) (a .n)) (a .v) (a .n)
     → (c .block-select .result < 512) × (512 * m + c .block-select .result < a .n)
     × (512 * m + c .block-select .result ≡ placeIn (a .n) (selectOf (bitsOf (a .part .now) (a .n)) (a .n) (a .v) (a .k)))
 place c right few =
-    let a = c .before .before .before .before .before .before .before .before .before .args in
+    let a = c .before .before .before .before .before .before .before .before .args in
     let said = c .before .before .before .before .before .entry-values in
     let m = c .before .before .before .before .before .before .block-with in
     let block = c .before .before .block-at in
@@ -91,46 +83,45 @@ place c right few =
     few
     (c .block-select .ensures ∙ ap (λ (x : ℕ). placeIn 512 (selectOf (bitAt (block .result)) 512 (a .v) (a .k - x))) (said .ensures))
 
-returns-3 : tie.Need-returns-3
-returns-3 c =
-    let a = c .before .before .before .before .before .before .before .before .before .before .args in
-    (le-refl (a .n), λ right few. absurd (omega (arith, place (c .before) right few .0, c .if3 .taken)))
+returns-2 : tie.Need-returns-2
+returns-2 c =
+    let a = c .before .before .before .before .before .before .before .before .before .args in
+    (le-refl (a .n), λ right few. absurd (omega (arith, place (c .before) right few .0, c .if2 .taken)))
 
 mul-position : tie.Need-mul-position
 mul-position c = search needs
 
 add-position : tie.Need-add-position
 add-position c =
-    let a = c .before .before .before .before .before .before .before .before .before .before .args in
+    let a = c .before .before .before .before .before .before .before .before .before .args in
     let block = c .before .before .before .block-at in
     omega (arith, c .before .block-select .ensures, select-le (bitAt (block .result)) 512 (a .v) (a .k - c .before .before .before .before .before .before .entry-values .result))
 
-returns-4 : tie.Need-returns-4
-returns-4 c = (omega arith, λ right few. place (c .before .before) right few .2)
+returns-3 : tie.Need-returns-3
+returns-3 c = (omega arith, λ right few. place (c .before .before) right few .2)
 
-returns-5 : tie.Need-returns-5
-returns-5 c =
-    let a = c .before .before .before .before .before .before .before .before .before .before .before .args in
-    (le-refl (a .n), λ right few. absurd (omega (arith, place (c .before .before) right few .1, c .if4 .left)))
+returns-4 : tie.Need-returns-4
+returns-4 c =
+    let a = c .before .before .before .before .before .before .before .before .before .before .args in
+    (le-refl (a .n), λ right few. absurd (omega (arith, place (c .before .before) right few .1, c .if3 .left)))
 
 pub part-position-spec : {M : Type 1} → statement M
 part-position-spec =
     tie.close
     (tie.spec
-    returns
     sub-block-with
     add-block-with
     block-with-requires
     entry-values-requires
-    returns-2
+    returns
     bits-start-requires
     mul-block-at
     add-block-at
     block-at-requires
     slice-aggregate-block-select
     block-select-requires
-    returns-3
+    returns-2
     mul-position
     add-position
-    returns-4
-    returns-5)
+    returns-3
+    returns-4)

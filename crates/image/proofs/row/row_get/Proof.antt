@@ -1,17 +1,12 @@
 -- `image::row::row_get` meets its contract: the promise of `part_get`, carried over to the label's row. Assumes nothing.
-use mathlib.Core.Path.{_≡_, ap}
-use mathlib.Core.List.{List, [], _∷_}
-use mathlib.Core.Option.{Option}
-use Prim.Native.Nat.{ℕ}
+use mathlib.Core.Path.{ap, _∙_}
+use mathlib.Core.List.{[], _∷_}
 use native.Mathlib.Omega.{arith}
 use lib.ListN.{length}
-use Rattle.words.specs.Strip.{cell}
-use Rattle.words.specs.Refusals.{Line, unless, value, refused, toldOf}
 use Rattle.words.specs.Calls.{belowLine}
-use Rattle.image.specs.Rows.{rowBits}
 use Rattle.image.specs.Calls.{rowLength}
 use Rattle.image.proofs.ChainLaws.{RecordFacts, opened-record}
-use Rattle.image.proofs.RowLaws.{part-long, row-refused, row-held, row-told}
+use Rattle.image.proofs.RowLaws.{part-long, row-refused, row-held, row-look}
 use borrow.Author.Needs.{needs}
 use Rattle.image.proofs.row.row_get.Statement.{statement}
 use Rattle.image.proofs.row.row_get.Tie as tie
@@ -25,14 +20,10 @@ enum-known-o c = search needs
 enum-told : tie.Need-enum-told
 enum-told c = search needs
 
--- the lines after those of the opening, for a row of n bits
-abbrev lines : ℕ → ℕ → List Line
-lines i n = belowLine n i ∷ []
-
 returns : tie.Need-returns
 returns c =
     let a = c .before .before .before .before .args in
-    row-refused (a .image .now) (a .label) _ _ (lines (a .i) (rowLength (a .image .now) (a .label))) (c .before .before .open-row .ensures) (c .enum-told .given .1) _
+    row-refused (a .image .now) (a .label) _ _ (belowLine (rowLength (a .image .now) (a .label)) (a .i) ∷ []) (c .before .before .open-row .ensures) (c .enum-told .given .1) _
 
 -- the record at the place that the opening gave
 known : (c : tie.After-known-told) → RecordFacts (c .before .before .before .before .before .args .image .now) (c .before .o .given .0 .0)
@@ -55,7 +46,7 @@ returns-2 c =
     let held =
     row-held (a .image .now) (a .label) _ _ _ _ (c .before .before .before .before .before .before .open-row .ensures) (c .before .before .before .before .o .given .1)
     (c .before .before .record-part .ensures) (c .before .index-at .ensures .0) in
-    row-told held (λ (p : List ℕ) (n : ℕ) (t : Option ℕ). toldOf (c .part-get .result) ≡ unless t refused (value (cell (rowBits p n) (a .i)))) (lines (a .i)) (c .part-get .ensures)
+    c .part-get .ensures ∙ row-look held (a .i)
 
 pub row-get-spec : {M : Type 1} → statement M
 row-get-spec =

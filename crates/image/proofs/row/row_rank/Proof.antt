@@ -1,18 +1,12 @@
 -- `image::row::row_rank` meets its contract: the promise of `part_rank`, carried over to the label's row. Assumes nothing.
 use mathlib.Core.Path.{ap}
-use mathlib.Core.List.{List, [], _∷_}
-use mathlib.Core.Option.{Option}
-use Prim.Native.Nat.{ℕ}
+use mathlib.Core.List.{[], _∷_}
 use native.Mathlib.Omega.{arith}
 use lib.ListN.{length}
-use Rattle.words.specs.Strip.{rank}
-use Rattle.words.specs.Refusals.{Line, Told, value, refused, toldOf}
 use Rattle.words.specs.Calls.{valueLine, withinLine}
-use Rattle.counters.specs.Promises.{Promise, AtMost}
-use Rattle.image.specs.Rows.{rowBits, Right}
 use Rattle.image.specs.Calls.{rowLength}
 use Rattle.image.proofs.ChainLaws.{RecordFacts, opened-record}
-use Rattle.image.proofs.RowLaws.{part-long, row-refused-promise, row-held, row-told}
+use Rattle.image.proofs.RowLaws.{part-long, row-refused-promise, row-held, row-count}
 use borrow.Author.Needs.{needs}
 use Rattle.image.proofs.row.row_rank.Statement.{statement}
 use Rattle.image.proofs.row.row_rank.Tie as tie
@@ -26,14 +20,10 @@ enum-known-o c = search needs
 enum-told : tie.Need-enum-told
 enum-told c = search needs
 
--- the lines after those of the opening, for a row of n bits
-abbrev lines : ℕ → ℕ → ℕ → List Line
-lines v i n = valueLine v ∷ withinLine n i ∷ []
-
 returns : tie.Need-returns
 returns c =
     let a = c .before .before .before .before .args in
-    row-refused-promise (a .image .now) (a .label) _ _ (lines (a .v) (a .i) (rowLength (a .image .now) (a .label))) (c .before .before .open-row .ensures) (c .enum-told .given .1) _ _ _
+    row-refused-promise (a .image .now) (a .label) _ _ (valueLine (a .v) ∷ withinLine (rowLength (a .image .now) (a .label)) (a .i) ∷ []) (c .before .before .open-row .ensures) (c .enum-told .given .1) _ _ _
 
 -- the record at the place that the opening gave
 known : (c : tie.After-known-told) → RecordFacts (c .before .before .before .before .before .args .image .now) (c .before .o .given .0 .0)
@@ -56,7 +46,7 @@ returns-2 c =
     let held =
     row-held (a .image .now) (a .label) _ _ _ _ (c .before .before .before .before .before .before .open-row .ensures) (c .before .before .before .before .o .given .1)
     (c .before .before .record-part .ensures) (c .before .index-at .ensures .0) in
-    row-told held (λ (p : List ℕ) (n : ℕ) (t : Option ℕ). Promise Told t refused (value (rank (rowBits p n) (a .v) (a .i))) (Right p n) (AtMost 15 (a .i)) (toldOf (c .part-rank .result))) (lines (a .v) (a .i)) (c .part-rank .ensures)
+    row-count held (a .v) (a .i) _ (c .part-rank .ensures)
 
 pub row-rank-spec : {M : Type 1} → statement M
 row-rank-spec =

@@ -1,18 +1,12 @@
 -- `image::row::row_select` meets its contract: the promise of `part_select`, carried over to the label's row. Assumes nothing.
 use mathlib.Core.Path.{ap}
-use mathlib.Core.List.{List, [], _∷_}
-use mathlib.Core.Option.{Option}
-use Prim.Native.Nat.{ℕ}
+use mathlib.Core.List.{[], _∷_}
 use native.Mathlib.Omega.{arith}
 use lib.ListN.{length}
-use Rattle.words.specs.Strip.{select}
-use Rattle.words.specs.Refusals.{Line, Told, refused, found, toldOf}
 use Rattle.words.specs.Calls.{valueLine, absentLine}
-use Rattle.counters.specs.Promises.{Promise, Below}
-use Rattle.image.specs.Rows.{rowBits, Right}
 use Rattle.image.specs.Calls.{rowLength}
 use Rattle.image.proofs.ChainLaws.{RecordFacts, opened-record}
-use Rattle.image.proofs.RowLaws.{part-long, row-refused-promise, row-held, row-told}
+use Rattle.image.proofs.RowLaws.{part-long, row-refused-promise, row-held, row-find}
 use borrow.Author.Needs.{needs}
 use Rattle.image.proofs.row.row_select.Statement.{statement}
 use Rattle.image.proofs.row.row_select.Tie as tie
@@ -26,14 +20,10 @@ enum-known-o c = search needs
 enum-told : tie.Need-enum-told
 enum-told c = search needs
 
--- the lines after those of the opening, for a row of n bits
-abbrev lines : ℕ → ℕ → ℕ → List Line
-lines v k n = valueLine v ∷ absentLine n k ∷ []
-
 returns : tie.Need-returns
 returns c =
     let a = c .before .before .before .before .args in
-    row-refused-promise (a .image .now) (a .label) _ _ (lines (a .v) (a .k) (rowLength (a .image .now) (a .label))) (c .before .before .open-row .ensures) (c .enum-told .given .1) _ _ _
+    row-refused-promise (a .image .now) (a .label) _ _ (valueLine (a .v) ∷ absentLine (rowLength (a .image .now) (a .label)) (a .k) ∷ []) (c .before .before .open-row .ensures) (c .enum-told .given .1) _ _ _
 
 -- the record at the place that the opening gave
 known : (c : tie.After-known-told) → RecordFacts (c .before .before .before .before .before .args .image .now) (c .before .o .given .0 .0)
@@ -56,7 +46,7 @@ returns-2 c =
     let held =
     row-held (a .image .now) (a .label) _ _ _ _ (c .before .before .before .before .before .before .open-row .ensures) (c .before .before .before .before .o .given .1)
     (c .before .before .record-part .ensures) (c .before .index-at .ensures .0) in
-    row-told held (λ (p : List ℕ) (n : ℕ) (t : Option ℕ). Promise Told t refused (found (select (rowBits p n) (a .v) (a .k))) (Right p n) (Below 15 n) (toldOf (c .part-select .result))) (lines (a .v) (a .k)) (c .part-select .ensures)
+    row-find held (a .v) (a .k) _ (c .part-select .ensures)
 
 pub row-select-spec : {M : Type 1} → statement M
 row-select-spec =

@@ -2,7 +2,7 @@
 use Prim.Native.Nat.{ℕ}
 use lib.ListN.{getD}
 use lib.Dec.{lit<}
-use Rattle.image.proofs.WriteLaws.{entry-is}
+use Rattle.image.proofs.EntryLaws.{entry-is}
 use borrow.Author.Needs.{needs}
 use Rattle.image.proofs.write.entry_halves.Statement.{statement}
 use Rattle.image.proofs.write.entry_halves.Tie as tie

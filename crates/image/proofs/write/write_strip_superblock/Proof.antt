@@ -26,13 +26,16 @@ write-superblock-requires c κs = search needs
 same-length : tie.Need-same-length
 same-length c = search needs
 
+same-length-2 : tie.Need-same-length-2
+same-length-2 c = search needs
+
 returns : tie.Need-returns
 returns c =
-    let a = c .before .before .before .before .before .before .before .args in
+    let a = c .before .before .before .before .before .before .before .before .before .before .before .args in
     let t = stripOf (a .words .now) (a .n) in
     let place : (p : ℕ) → 64 * (64 * a .e) + p ≡ 4096 * a .e + p = λ p. omega arith in
     superblock-ext (wordBits (a .words .now) (64 * a .e)) (λ p. cell t (4096 * a .e + p)) (a .sum) (a .a) (a .b) (a .image .now) _ _
-    (c .before .before .write-superblock .ensures)
+    (c .before .before .before .before .write-superblock .ensures)
     (λ p l. ap (bitAt (a .words .now)) (place p) ∙ sym (strip-cell (a .words .now) (a .n) (4096 * a .e + p) (omega arith)))
 
 mul-last-words : tie.Need-mul-last-words
@@ -47,18 +50,21 @@ slice-aggregate-write-superblock c = search needs
 write-superblock-requires-2 : tie.Need-write-superblock-requires-2
 write-superblock-requires-2 c κs = search needs
 
-same-length-2 : tie.Need-same-length-2
-same-length-2 c = search needs
+same-length-3 : tie.Need-same-length-3
+same-length-3 c = search needs
+
+same-length-4 : tie.Need-same-length-4
+same-length-4 c = search needs
 
 returns-2 : tie.Need-returns-2
 returns-2 c =
-    let tail = c .before .before .before .before .before .last-words in
-    let a = c .before .before .before .before .before .before .before .before .before .args in
+    let tail = c .before .before .before .before .before .before .before .before .last-words in
+    let a = c .before .before .before .before .before .before .before .before .before .before .before .before .before .args in
     let t = stripOf (a .words .now) (a .n) in
     let start : (p : ℕ) → 64 * 0 + p ≡ p = λ p. omega arith in
     let place : (p : ℕ) → 64 * (64 * a .e) + p ≡ 4096 * a .e + p = λ p. omega arith in
     superblock-ext (wordBits (tail .result) 0) (λ p. cell t (4096 * a .e + p)) (a .sum) (a .a) (a .b) (a .image .now) _ _
-    (c .before .before .write-superblock2 .ensures)
+    (c .before .before .before .before .write-superblock2 .ensures)
     (λ p l. ap (bitAt (tail .result)) (start p) ∙ tail .ensures .1 p l ∙ ap (cell t) (place p))
 
 pub write-strip-superblock-spec : {M : Type 1} → statement M
@@ -70,10 +76,12 @@ write-strip-superblock-spec =
     mul-write-superblock
     write-superblock-requires
     same-length
+    same-length-2
     returns
     mul-last-words
     last-words-requires
     slice-aggregate-write-superblock
     write-superblock-requires-2
-    same-length-2
+    same-length-3
+    same-length-4
     returns-2)
