@@ -17,14 +17,18 @@ CALLS = (
     "count", "find 1", "find 0", "turn", "add", "next", "run", "check",
     "freeze", "inspect", "row count", "row find",
 )  # fmt: skip
-COLUMNS = ("library", "C++", "scan", "scan, popcnt", "sdsl", "CRoaring")
-PAIR, NOISE = "library / C++", "C++ again / C++"
+COLUMNS = ("library", "C++", "C++, checked", "scan", "scan, popcnt", "sdsl", "CRoaring")
+PAIR, NOISE, CHECKED = "library / C++", "C++ again / C++", "library / C++, checked"
 # What callgrind counted under these names.
 FUNCTIONS = {
     "count": ("strip_rank", "tree_rank"),
+    "count, C++ checked": ("strip_rank", "checked_rank"),
     "find 1": ("strip_select", "tree_select"),
+    "find 1, C++ checked": ("strip_select", "checked_select"),
     "turn": ("strip_flip", "tree_flip"),
+    "turn, C++ checked": ("strip_flip", "checked_flip"),
     "add": ("strip_push", "tree_push"),
+    "add, C++ checked": ("strip_push", "checked_push"),
     "next": ("strip_successor", "tree_successor"),
     "run": ("strip_fill", "tree_fill"),
     "check": ("strip_verify", "tree_verify"),
@@ -84,9 +88,9 @@ def calls_table(of, power):
         for share in SHARES:
             key = power, share, call
             figures = [duration(of.time(*key, column)) for column in COLUMNS]
-            ratios = [spread(of.three("ratio", *key, pair)) for pair in (PAIR, NOISE)]
-            rows.append([call, share, *figures[:2], *ratios, *figures[2:]])
-    head = ["call", "ones", "library", "C++", "library / C++", "C++ / C++", *COLUMNS[2:]]
+            ratios = [spread(of.three("ratio", *key, pair)) for pair in (PAIR, NOISE, CHECKED)]
+            rows.append([call, share, *figures[:2], *ratios[:2], figures[2], ratios[2], *figures[3:]])
+    head = ["call", "ones", "library", "C++", PAIR, "C++ / C++", "C++, checked", CHECKED, *COLUMNS[3:]]
     return table(head, rows)
 
 
@@ -94,9 +98,9 @@ def cells():
     return [(power, share) for power in POWERS for share in SHARES]
 
 
-def within(of, kind, power, share, call):
-    """Whether the library is no slower than the C++ version, but for what that version differs from itself."""
-    ratio, noise = (of.three(kind, power, share, call, pair) for pair in (PAIR, NOISE))
+def within(of, kind, power, share, call, pair):
+    """Whether the library is no slower than a C++ version, but for what C++ differs from itself."""
+    ratio, noise = (of.three(kind, power, share, call, name) for name in (pair, NOISE))
     return ratio[1] <= max(1, noise[2])
 
 
@@ -107,11 +111,15 @@ def verdict(met):
 def aims_table(of):
     rows = []
     for call in ("count", "find 1", "find 0", "turn", "add", "run"):
-        for level, kind in (("-O3", "ratio"), ("-O2", "ratio-O2")):
-            inside = [cell for cell in cells() if within(of, kind, *cell, call)]
-            ratios = [of.three(kind, *cell, call, PAIR)[1] for cell in cells()]
+        kinds = [(level, kind, pair) for pair in (PAIR, CHECKED) for level, kind in (("-O3", "ratio"), ("-O2", "ratio-O2"))]
+        for level, kind, pair in kinds:
+            if of.three(kind, "20", "1/64", call, pair) is None:
+                continue
+            inside = [cell for cell in cells() if within(of, kind, *cell, call, pair)]
+            ratios = [of.three(kind, *cell, call, pair)[1] for cell in cells()]
             figure = f"ratio {min(ratios):.2f} to {max(ratios):.2f}; no slower in {len(inside)} of 9 cells"
-            rows.append([f"{call}: no slower than the C++ version at {level}", figure, verdict(len(inside) == 9)])
+            name = pair.removeprefix("library / ")
+            rows.append([f"{call}: no slower than {name}, at {level}", figure, verdict(len(inside) == 9)])
     for call in ("count", "find 1", "turn", "turn by flip_inplace"):
         mine = call.removesuffix(" by flip_inplace")
         for power in POWERS:

@@ -1,7 +1,8 @@
 //! Times the calls on full strips and on a frozen row at 2^20, 2^24 and 2^27 bits and three densities of ones: the
-//! proved library; the same by hand in C++ (tree.cpp, row.cpp), twice, to know the noise; a plain scan; sdsl-lite and
-//! CRoaring where they are installed; and memcpy beside freeze. All stand in one run, in alternating rounds. Each
-//! measurement asks for fresh random places. Prints lines of tab-separated fields:
+//! proved library; the same by hand in C++ (tree.cpp, row.cpp), twice, to know the noise; count, find, turn and add by
+//! hand with the library's checks; a plain scan; sdsl-lite and CRoaring where they are installed; and memcpy beside
+//! freeze. All stand in one run, in alternating rounds. Each measurement asks for fresh random places, and follows one of
+//! the same kind that does not count. Prints lines of tab-separated fields:
 //!   time   power  density  call  column  lower quartile, median, upper quartile, in ns a call
 //!   ratio  power  density  call  columns  the same, over the rounds
 //!   bytes  power  density  what  bytes
@@ -68,6 +69,7 @@ enum Column {
     Library,
     Hand,
     Again,
+    Checked,
     Popcnt,
     Scan,
     Sdsl,
@@ -75,10 +77,11 @@ enum Column {
     Memcpy,
 }
 
-const COLUMNS: [(Column, &str); 8] = [
+const COLUMNS: [(Column, &str); 9] = [
     (Column::Library, "library"),
     (Column::Hand, "C++"),
     (Column::Again, "C++ again"),
+    (Column::Checked, "C++, checked"),
     (Column::Popcnt, "scan, popcnt"),
     (Column::Scan, "scan"),
     (Column::Sdsl, "sdsl"),
@@ -192,6 +195,7 @@ impl Bench {
         match column {
             Column::Library => self.library(call, &q, pace),
             Column::Hand | Column::Again => self.hand(call, &q, pace),
+            Column::Checked => self.checked(call, &q, pace),
             Column::Scan => self.scan(call, &q, pace),
             Column::Popcnt => self.popcnt(call, &q, pace),
             Column::Sdsl => self.sdsl(call, &q, pace),
@@ -257,6 +261,23 @@ impl Bench {
             Inspect => time(q, pace, |_| row.tree_inspect()),
             RowCount => time(q, pace, |i| row.tree_rank(i)),
             RowFind => time(q, pace, |k| row.tree_select(k)),
+        };
+        self.restore(call);
+        times
+    }
+
+    /// The calls that are also there by hand with the library's checks.
+    fn checked(&mut self, call: Call, q: &[usize], pace: Pace) -> Vec<f64> {
+        if !matches!(call, Count | Find(_) | Turn | Add) {
+            return Vec::new();
+        }
+        let mut next = self.prepare(call, q.len());
+        let r = &mut self.record;
+        let times = match call {
+            Count => time(q, pace, |i| r.checked_rank(1, i)),
+            Find(v) => time(q, pace, |k| r.checked_select(v, k)),
+            Turn => time(q, pace, |i| r.checked_flip(i)),
+            _ => time(q, pace, |v| r.checked_push(next(), v as u64)),
         };
         self.restore(call);
         times
@@ -338,6 +359,7 @@ impl Bench {
                     Count => {
                         assert_eq!(self.row.rank(q), r.rank(1, q));
                         assert_eq!(self.row.tree_rank(q), r.rank(1, q));
+                        assert_eq!(r.checked_rank(1, q), r.rank(1, q));
                         assert_eq!(r.successor(1, q), r.tree_successor(1, q));
                         assert_eq!(r.successor(1, q), scan::successor(r.words(), 1, q));
                         let others = (s.as_ref().map(|s| s.rank(q)), b.as_ref().map(|b| b.rank(q)));
@@ -345,16 +367,30 @@ impl Bench {
                     }
                     Find(v) => {
                         assert!(v == 0 || self.row.select(q) == r.select(1, q));
+                        assert_eq!(r.checked_select(v, q), r.select(v, q));
                         assert!(v == 0 || self.row.tree_select(q) == r.select(1, q));
                         let others = (s.as_ref().map(|s| s.select(v, q)), b.as_ref().map(|b| b.select(q)));
                         (r.select(v, q), r.tree_select(v, q), others.0, others.1.filter(|_| v == 1))
                     }
-                    _ => (r.flip(q), r.tree_flip(q), None, None),
+                    _ => (r.flip(q), r.tree_flip(q), Some(r.checked_flip(q)), Some(r.flip(q))),
                 };
                 assert_eq!(answers.0, answers.1);
                 assert!(answers.2.is_none_or(|x| x == answers.0) && answers.3.is_none_or(|x| x == answers.0));
             }
         }
+        for length in self.queries(Count, 100) {
+            for v in [0, 1] {
+                let r = &mut self.record;
+                let mut pushed = |push: fn(&mut Record, usize, u64) -> usize| {
+                    r.truncate(length);
+                    let number = push(r, length, v);
+                    (number, r.rank(1, length + 1), r.words()[length / 64])
+                };
+                let answer = pushed(Record::push);
+                assert!(answer == pushed(Record::tree_push) && answer == pushed(Record::checked_push));
+            }
+        }
+        self.record.restore(&self.words);
         let (r, words) = (&self.record, self.record.words());
         for q in [0, 1, self.bits / 3, self.bits - 1] {
             assert_eq!(scan::rank(words, q), r.rank(1, q));
@@ -370,9 +406,10 @@ impl Bench {
         let mut figures = vec![vec![Vec::new(); columns.len()]; calls.len()];
         for number in 0..rounds {
             for (x, (call, _)) in calls.iter().enumerate() {
-                // now the one goes first, now the other
+                // now the one goes first, now the other; each after one of its own that does not count
                 for y in 0..columns.len() {
                     let y = if number % 2 == 0 { y } else { columns.len() - 1 - y };
+                    self.measure(*call, columns[y].0);
                     figures[x][y].push(self.measure(*call, columns[y].0));
                 }
             }
@@ -384,9 +421,12 @@ impl Bench {
                     println!("time\t{at}\t{name}{note}\t{column}\t{a:.2}\t{b:.2}\t{c:.2}");
                 }
             }
-            for (y, pair) in [(0, "library / C++"), (2, "C++ again / C++")] {
+            for (y, z, pair) in [(0, 1, "library / C++"), (2, 1, "C++ again / C++"), (0, 3, "library / C++, checked")] {
+                if columns.len() <= z {
+                    continue;
+                }
                 let medians = |y: usize| figures[x][y].iter().filter_map(|f| Some(quartiles(f.clone())?[1]));
-                let ratios = medians(y).zip(medians(1)).map(|(a, b)| a / b).collect();
+                let ratios = medians(y).zip(medians(z)).map(|(a, b)| a / b).collect();
                 if let Some([a, b, c]) = quartiles(ratios) {
                     println!("ratio\t{at}\t{name}{note}\t{pair}\t{a:.3}\t{b:.3}\t{c:.3}");
                 }
@@ -440,6 +480,7 @@ fn calls(power: u32, count: usize) {
         let q = &queries[..if whole { count / 100 } else { count }];
         bench.library(call, q, PACE);
         bench.hand(call, q, PACE);
+        bench.checked(call, q, PACE);
     }
 }
 
@@ -449,7 +490,7 @@ fn main() {
     if arguments.first().is_some_and(|mode| mode == "calls") {
         return calls(number(1) as u32, number(2));
     }
-    let rounds = if arguments.is_empty() { 21 } else { number(0) };
+    let rounds = if arguments.is_empty() { 20 } else { number(0) };
     let powers: Vec<u32> = (1..arguments.len()).map(|j| number(j) as u32).collect();
     for power in if powers.is_empty() { vec![20, 24, 27] } else { powers } {
         for share in [1, 32, 63] {

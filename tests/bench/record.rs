@@ -10,6 +10,10 @@ extern "C" {
     fn tree_push(c: usize, words: *mut u64, counters: *mut u32, p: usize, v: u64) -> usize;
     fn tree_fill(c: usize, n: usize, words: *mut u64, counters: *mut u32, a: usize, b: usize, v: u64) -> usize;
     fn tree_verify(c: usize, n: usize, words: *const u64, counters: *const u32) -> bool;
+    fn checked_rank(c: usize, n: usize, w: *const u64, nw: usize, x: *const u32, nx: usize, v: u64, i: usize) -> u64;
+    fn checked_select(c: usize, n: usize, w: *const u64, nw: usize, x: *const u32, nx: usize, v: u64, k: usize) -> u64;
+    fn checked_flip(c: usize, n: usize, w: *mut u64, nw: usize, x: *mut u32, nx: usize, i: usize, out: *mut u64, room: usize);
+    fn checked_push(c: usize, n: usize, w: *mut u64, nw: usize, x: *mut u32, nx: usize, v: u64, out: *mut u64, room: usize);
     fn madvise(at: *mut u8, size: usize, advice: i32) -> i32;
 }
 
@@ -168,5 +172,27 @@ impl Record {
     pub fn tree_fill(&mut self, a: usize, b: usize, v: u64) -> usize {
         let (words, _, counters, _, _) = self.lend();
         unsafe { tree_fill(self.bits, self.bits, words, counters, a, b, v) }
+    }
+
+    pub fn checked_rank(&self, v: u64, i: usize) -> usize {
+        let (words, nw, counters, nc) = self.parts();
+        unsafe { checked_rank(self.bits, self.bits, words, nw, counters, nc, v, i) as usize }
+    }
+
+    pub fn checked_select(&self, v: u64, k: usize) -> usize {
+        let (words, nw, counters, nc) = self.parts();
+        unsafe { checked_select(self.bits, self.bits, words, nw, counters, nc, v, k) as usize }
+    }
+
+    pub fn checked_push(&mut self, length: usize, v: u64) -> usize {
+        let (words, nw, counters, nc, out) = self.lend();
+        unsafe { checked_push(self.bits, length, words, nw, counters, nc, v, out, 5) }
+        self.out[2] as usize
+    }
+
+    pub fn checked_flip(&mut self, i: usize) -> usize {
+        let (words, nw, counters, nc, out) = self.lend();
+        unsafe { checked_flip(self.bits, self.bits, words, nw, counters, nc, i, out, 5) }
+        self.out[2] as usize
     }
 }

@@ -1,5 +1,7 @@
-// The same tree of counters written by hand in C++, for comparison. Nothing is checked: the caller lends a fitting
-// record, and positions and k that are there.
+// The same tree of counters written by hand in C++, for comparison. In the functions tree_* nothing is checked: the
+// caller lends a fitting record, and positions and k that are there. Those named checked_* take what the library's take,
+// make its checks of handle, buffers and arguments, and answer as it does; that the record fits they take on trust. All
+// that they call is put into them.
 #include "word.hpp"
 
 #include <cstring>
@@ -79,12 +81,8 @@ void put(uint64_t *words, size_t a, size_t b, uint64_t v)
     for (; a < b; a++) words[a / 64] = (words[a / 64] & ~(uint64_t(1) << a % 64)) | v << a % 64;
 }
 
-} // namespace
-
-extern "C" {
-
-// count(1, i), i below the capacity
-size_t tree_rank(size_t capacity, const uint64_t *words, const uint32_t *counters, size_t i)
+// The ones before the word of position i, and those of it that the mask names.
+size_t ones_to(size_t capacity, const uint64_t *words, const uint32_t *counters, size_t i, uint64_t mask)
 {
     Shape shape(capacity);
     size_t sum = 0, child = i / 512;
@@ -96,7 +94,42 @@ size_t tree_rank(size_t capacity, const uint64_t *words, const uint32_t *counter
         if (c % 8 != 0) sum += node[7 + c];
     }
     for (size_t j = i / 512 * 8; j < i / 64; j++) sum += ones(words[j]);
-    return sum + ones(words[i / 64] & ((uint64_t(1) << i % 64) - 1));
+    return sum + ones(words[i / 64] & mask);
+}
+
+// The first refusal of handle and buffers, or 0.
+uint64_t refusal(size_t capacity, size_t length, size_t words, size_t counters)
+{
+    if (capacity % 512 != 0 || capacity < 512 || capacity > 134217728 || length > capacity) return 1;
+    if (words != capacity / 64) return 2;
+    size_t total = 0, count = capacity / 512;
+    do total += count = (count + 63) / 64;
+    while (count > 1);
+    return counters != 72 * total ? 3 : 0;
+}
+
+// A refusal as an answer.
+uint64_t refused(uint64_t number) { return (uint64_t(1) << 32) + number; }
+
+// What a change answers.
+void answer(uint64_t *out, uint64_t number, uint64_t x, uint64_t y, size_t capacity, size_t length)
+{
+    out[0] = number;
+    out[1] = x;
+    out[2] = y;
+    out[3] = capacity;
+    out[4] = length;
+}
+
+} // namespace
+
+extern "C" {
+
+// count(1, i), i below the capacity
+[[gnu::flatten]]
+size_t tree_rank(size_t capacity, const uint64_t *words, const uint32_t *counters, size_t i)
+{
+    return ones_to(capacity, words, counters, i, (uint64_t(1) << i % 64) - 1);
 }
 
 // find(v, k)
@@ -180,6 +213,55 @@ bool tree_verify(size_t capacity, size_t length, const uint64_t *words, const ui
     return each_node(capacity, words, counters, [=](size_t at, const uint32_t *node) {
         return std::memcmp(counters + at, node, 72 * sizeof *node) == 0;
     });
+}
+
+[[gnu::flatten]]
+uint64_t checked_rank(size_t capacity, size_t length, const uint64_t *words, size_t nw, const uint32_t *counters, size_t nc,
+                      uint64_t v, size_t i)
+{
+    uint64_t number = refusal(capacity, length, nw, nc);
+    if (number == 0) number = v > 1 ? 8 : i > length ? 4 : 0;
+    if (number != 0) return refused(number);
+    if (i == 0) return 0;
+    size_t found = ones_to(capacity, words, counters, i - 1, ~uint64_t(0) >> (63 - (i - 1) % 64));
+    if (found > i) return refused(9);
+    return v == 1 ? found : i - found;
+}
+
+[[gnu::flatten]]
+uint64_t checked_select(size_t capacity, size_t length, const uint64_t *words, size_t nw, const uint32_t *counters,
+                        size_t nc, uint64_t v, size_t k)
+{
+    uint64_t number = refusal(capacity, length, nw, nc);
+    if (number == 0) number = v > 1 ? 8 : k >= length ? 6 : 0;
+    if (number != 0) return refused(number);
+    size_t ones = size_t(counters[7]) + counters[71];
+    if (ones > length) return refused(9);
+    if (k >= (v == 1 ? ones : length - ones)) return refused(6);
+    return tree_select(capacity, words, counters, v, k);
+}
+
+[[gnu::flatten]]
+void checked_flip(size_t capacity, size_t length, uint64_t *words, size_t nw, uint32_t *counters, size_t nc, size_t i,
+                  uint64_t *out, size_t room)
+{
+    if (room < 5) return;
+    uint64_t number = refusal(capacity, length, nw, nc);
+    if (number == 0 && i >= length) number = 4;
+    if (number != 0) return answer(out, number, 0, 0, capacity, length);
+    size_t changed = tree_flip(capacity, words, counters, i);
+    answer(out, 0, words[i / 64] >> i % 64 & 1, changed, capacity, length);
+}
+
+[[gnu::flatten]]
+void checked_push(size_t capacity, size_t length, uint64_t *words, size_t nw, uint32_t *counters, size_t nc, uint64_t v,
+                  uint64_t *out, size_t room)
+{
+    if (room < 5) return;
+    uint64_t number = refusal(capacity, length, nw, nc);
+    if (number == 0) number = v > 1 ? 8 : length == capacity ? 7 : 0;
+    if (number != 0) return answer(out, number, 0, 0, capacity, length);
+    answer(out, 0, length, tree_push(capacity, words, counters, length, v), capacity, length + 1);
 }
 
 } // extern "C"
