@@ -23,7 +23,7 @@
  *  14  no row has the label
  *  15  a wrong row: its ones, entries or padding are not those of its bits
  *
- * The buffers lent to one call do not overlap. A buffer of no numbers may be NULL.
+ * The buffers lent to one call do not overlap, and are aligned for their type. A buffer of no numbers may be NULL.
  */
 #ifndef TESTING_H
 #define TESTING_H
@@ -157,14 +157,14 @@ uint64_t image_opened_select(const uint8_t *image, size_t size, size_t label, ui
  * the last handle; then for each call refusal or 0, first value, second value, 0 where there is none. Later places stay
  * as they are. A refused opening puts its number into answers[0], changes nothing else and returns 0. Numbers past the
  * last whole call are not read. With fewer than 3 + 3 * (script_len / 4) answers lent nothing runs, and 2^64 - 1 is
- * returned. */
+ * returned. Refusals of the opening: 1, 2, 3, 13; 13 first where clear_first is not 0. */
 uint64_t strip_execute(const uint64_t *script, size_t script_len, uint64_t capacity, uint64_t clear_first,
                        uint64_t *words, size_t words_len, uint32_t *counters, size_t counters_len, uint8_t *image,
                        size_t image_len, uint64_t *answers, size_t answers_len);
 
 /* One call of a script, on the handle (capacity, length) and any buffers, fitting or not. Writes five numbers to `out`:
  * refusal or 0, first value, second value, capacity and length of the handle now in use. With fewer than five lent it
- * does nothing at all. */
+ * does nothing at all. Refusals: the call's own. */
 void strip_step(uint64_t op, uint64_t x, uint64_t y, uint64_t z, uint64_t capacity, uint64_t length, uint64_t *words,
                 size_t words_len, uint32_t *counters, size_t counters_len, uint8_t *image, size_t image_len,
                 uint64_t *out, size_t out_len);

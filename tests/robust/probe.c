@@ -1,5 +1,5 @@
-/* An access that a run has to report, as the library might make one: probe past|before|write|beside|unset. The first three
- * meet a closed page or a view that cannot be written; the last two only valgrind sees. */
+/* An access that a run has to report, as the library might make one: probe past|before|write|beside|unset|none. The first
+ * three meet a closed page or a view that cannot be written; the next two only valgrind sees; none makes no access. */
 #include "lend.h"
 
 #define PLAIN __attribute__((noinline, no_sanitize("address"), no_sanitize("undefined")))
