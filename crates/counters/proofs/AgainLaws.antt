@@ -9,7 +9,7 @@ use Prim.Native.Nat.{ℕ, _+_, _-_, _≤_, _<_}
 use native.Mathlib.Decide.{ℕ-discrete}
 use native.Mathlib.Omega.{arith}
 use lib.Dec.{leb, ltb}
-use lib.ListN.{length, set, take, replicate, length-append, length-set, List·getD-append, List·getD-eq-default}
+use lib.ListN.{length, set, take, replicate, length-append, length-set, List·getD-append}
 use lib.Seq.{getD-append-add, getD-set-same, getD-set-other, getD-take, length-take-le}
 use borrow.Author.Tests.{leb-false, ltb-false}
 use Rattle.words.specs.Strip.{cell}
@@ -18,28 +18,13 @@ use Rattle.words.specs.Handles.{handle}
 use Rattle.words.specs.Calls.{valueLine, belowLine, withinLine}
 use Rattle.words.specs.declared.handle.Handle.{Handle}
 use Rattle.words.proofs.Sums.{lt-or, length-listOf, getD-listOf}
-use Rattle.words.proofs.WordLaws.{bitAt-le}
-use Rattle.words.proofs.StripLaws.{strip-cell, strip-length}
+use Rattle.words.proofs.StripLaws.{strip-length}
 use Rattle.counters.specs.Record.{Fits, packedWords, builtCounters}
-use Rattle.counters.specs.Calls.{checks, held, pushTable, flipTable, fillTable, filled, truncateTable}
-use Rattle.counters.proofs.BuiltLaws.{built-fits, words-zero, counters-zero}
+use Rattle.counters.specs.Calls.{checks, heldStrip, pushTable, flipTable, fillTable, filled, truncateTable}
+use Rattle.counters.proofs.AfreshLaws.{bits-all, held-bits, built-fits, words-zero, counters-zero}
 use Rattle.counters.proofs.PromiseLaws.{sizes, sizes-of, lines-of}
 
 -- ---- strips of bits
--- bits at the cells that a strip has: bits at all
-bits-all : (s : List ℕ) → ((p : ℕ) → p < length s → cell s p ≤ 1) → (p : ℕ) → cell s p ≤ 1
-bits-all s bits p = go (lt-or p (length s))
-  where
-    go : (p < length s) ⊎ (length s ≤ p) → cell s p ≤ 1
-    go (inl l) = bits p l
-    go (inr l) = omega (arith, List·getD-eq-default s 0 {n = p} l)
-
--- a strip that words hold
-held-bits : (h : Handle) (ws : List ℕ) (p : ℕ) → cell (held h ws) p ≤ 1
-held-bits h ws =
-    bits-all (held h ws)
-    (λ p l. let q : p < h .length = omega (arith, strip-length ws (h .length)) in omega (arith, strip-cell ws (h .length) p q, bitAt-le ws p))
-
 -- a bit appended
 pub push-bits : (s : List ℕ) (v : ℕ) → ((p : ℕ) → cell s p ≤ 1) → v ≤ 1 → (p : ℕ) → cell (s ++ (v ∷ [])) p ≤ 1
 push-bits s v bits small =
@@ -101,8 +86,8 @@ create-again c ws cs pass =
 
 -- add
 pub push-again : (h : Handle) (ws cs : List ℕ) (v : ℕ) → judge (pushTable h (length ws) (length cs) v) ≡ none
-    → Fits (handle (h .capacity) (length (held h ws ++ (v ∷ [])))) (packedWords (h .capacity) (held h ws ++ (v ∷ [])))
-    (builtCounters (h .capacity) (held h ws ++ (v ∷ [])))
+    → Fits (handle (h .capacity) (length (heldStrip h ws ++ (v ∷ [])))) (packedWords (h .capacity) (heldStrip h ws ++ (v ∷ [])))
+    (builtCounters (h .capacity) (heldStrip h ws ++ (v ∷ [])))
 push-again h ws cs v pass =
     let ls = valueLine v ∷ (leb (h .capacity) (h .length) ⇒ 7) ∷ [] in
     let z = sizes-of h ws cs ls pass in
@@ -110,40 +95,40 @@ push-again h ws cs v pass =
     let small : v ≤ 1 = ltb-false _ _ (l .0) in
     let room : h .length < h .capacity = leb-false _ _ (l .1 .0) in
     let one : length (v ∷ []) ≡ 1 = refl in
-    built-fits (h .capacity) (held h ws ++ (v ∷ [])) (z .step)
-    (omega (arith, length-append (held h ws) (v ∷ []), one, strip-length ws (h .length)))
-    (push-bits (held h ws) v (held-bits h ws) small)
+    built-fits (h .capacity) (heldStrip h ws ++ (v ∷ [])) (z .step)
+    (omega (arith, length-append (heldStrip h ws) (v ∷ []), one, strip-length ws (h .length)))
+    (push-bits (heldStrip h ws) v (held-bits ws (h .length)) small)
 
 -- turn
 pub flip-again : (h : Handle) (ws cs : List ℕ) (i : ℕ) → judge (flipTable h (length ws) (length cs) i) ≡ none
-    → Fits (handle (h .capacity) (length (set (held h ws) i (1 - cell (held h ws) i))))
-    (packedWords (h .capacity) (set (held h ws) i (1 - cell (held h ws) i))) (builtCounters (h .capacity) (set (held h ws) i (1 - cell (held h ws) i)))
+    → Fits (handle (h .capacity) (length (set (heldStrip h ws) i (1 - cell (heldStrip h ws) i))))
+    (packedWords (h .capacity) (set (heldStrip h ws) i (1 - cell (heldStrip h ws) i))) (builtCounters (h .capacity) (set (heldStrip h ws) i (1 - cell (heldStrip h ws) i)))
 flip-again h ws cs i pass =
     let z = sizes-of h ws cs (belowLine (h .length) i ∷ []) pass in
-    let b : ℕ = 1 - cell (held h ws) i in
-    built-fits (h .capacity) (set (held h ws) i b) (z .step)
-    (omega (arith, length-set (held h ws) i b, strip-length ws (h .length), z .long))
-    (set-bits (held h ws) i b (held-bits h ws) (omega arith))
+    let b : ℕ = 1 - cell (heldStrip h ws) i in
+    built-fits (h .capacity) (set (heldStrip h ws) i b) (z .step)
+    (omega (arith, length-set (heldStrip h ws) i b, strip-length ws (h .length), z .long))
+    (set-bits (heldStrip h ws) i b (held-bits ws (h .length)) (omega arith))
 
 -- run
 pub fill-again : (h : Handle) (ws cs : List ℕ) (a b v : ℕ) → judge (fillTable h (length ws) (length cs) a b v) ≡ none
-    → Fits (handle (h .capacity) (length (filled (held h ws) a b v))) (packedWords (h .capacity) (filled (held h ws) a b v))
-    (builtCounters (h .capacity) (filled (held h ws) a b v))
+    → Fits (handle (h .capacity) (length (filled (heldStrip h ws) a b v))) (packedWords (h .capacity) (filled (heldStrip h ws) a b v))
+    (builtCounters (h .capacity) (filled (heldStrip h ws) a b v))
 fill-again h ws cs a b v pass =
     let ls = valueLine v ∷ (ltb b a ⇒ 5) ∷ withinLine (h .length) b ∷ [] in
     let z = sizes-of h ws cs ls pass in
     let small : v ≤ 1 = ltb-false _ _ (lines-of h ws cs ls pass .0) in
-    built-fits (h .capacity) (filled (held h ws) a b v) (z .step)
-    (omega (arith, filled-length (held h ws) a b v, strip-length ws (h .length), z .long))
-    (filled-bits (held h ws) a b v (held-bits h ws) small)
+    built-fits (h .capacity) (filled (heldStrip h ws) a b v) (z .step)
+    (omega (arith, filled-length (heldStrip h ws) a b v, strip-length ws (h .length), z .long))
+    (filled-bits (heldStrip h ws) a b v (held-bits ws (h .length)) small)
 
 -- cut
 pub truncate-again : (h : Handle) (ws cs : List ℕ) (n : ℕ) → judge (truncateTable h (length ws) (length cs) n) ≡ none
-    → Fits (handle (h .capacity) (length (take n (held h ws)))) (packedWords (h .capacity) (take n (held h ws)))
-    (builtCounters (h .capacity) (take n (held h ws)))
+    → Fits (handle (h .capacity) (length (take n (heldStrip h ws)))) (packedWords (h .capacity) (take n (heldStrip h ws)))
+    (builtCounters (h .capacity) (take n (heldStrip h ws)))
 truncate-again h ws cs n pass =
     let z = sizes-of h ws cs (withinLine (h .length) n ∷ []) pass in
     let within : n ≤ h .length = ltb-false _ _ (lines-of h ws cs (withinLine (h .length) n ∷ []) pass .0) in
-    let room : n ≤ length (held h ws) = omega (arith, strip-length ws (h .length)) in
-    built-fits (h .capacity) (take n (held h ws)) (z .step) (omega (arith, length-take-le n (held h ws) room, z .long))
-    (take-bits n (held h ws) room (held-bits h ws))
+    let room : n ≤ length (heldStrip h ws) = omega (arith, strip-length ws (h .length)) in
+    built-fits (h .capacity) (take n (heldStrip h ws)) (z .step) (omega (arith, length-take-le n (heldStrip h ws) room, z .long))
+    (take-bits n (heldStrip h ws) room (held-bits ws (h .length)))

@@ -16,17 +16,17 @@ use Rattle.words.specs.Bits.{bitAt, ones, listOf}
 use Rattle.words.specs.Strip.{cell, stripOf, PastZero, rank}
 use Rattle.words.specs.Handles.{handle}
 use Rattle.words.specs.Working.{RangePut}
-use Rattle.words.proofs.Sums.{lt-or, ones-flat, listOf-is, length-listOf, getD-listOf}
+use Rattle.words.proofs.Sums.{lt-or, sum-flat, listOf-is, length-listOf, getD-listOf}
 use Rattle.words.proofs.WordLaws.{bitAt-le, bitAt-past}
 use Rattle.words.proofs.SearchLaws.{rank-ones}
 use Rattle.words.proofs.StripLaws.{strip-length, strip-cell, strip-rank}
 use Rattle.counters.specs.Tree.{blocksOf, counter, counterCount, indexOf, counts}
 use Rattle.counters.specs.Record.{packedWords, builtCounters, AllFit}
-use Rattle.counters.specs.Working.{movedBy, PathRaised}
+use Rattle.counters.specs.Working.{movedBy, PathMovedBy}
 use Rattle.counters.specs.Promises.{done, outcome, BitPut, PathMoved}
 use Rattle.counters.specs.Calls.{rebuilt, filled}
 use Rattle.counters.proofs.FlipLaws.{OneMore, counter-flip}
-use Rattle.counters.proofs.BuiltLaws.{counter-ext, counter-lt, fits-built}
+use Rattle.counters.proofs.AfreshLaws.{counter-ext, counter-lt, fits-built}
 
 -- ---- one position written
 -- the positions but p stay
@@ -96,13 +96,13 @@ wipe-clean us vs n e wipe h p l = go (lt-or p e)
 -- where moving by d takes each counter for f to that for g
 moved-fits : (f g : ℕ → ℕ) (n p d : ℕ) (cs ds : List ℕ)
     → ((t j i : ℕ) → 1 ≤ t → i < 72 → movedBy (counts t j i p) d (counter f t j i) ≡ counter g t j i)
-    → AllFit f n cs → PathRaised n p d cs ds → AllFit g n ds
+    → AllFit f n cs → PathMovedBy n p d cs ds → AllFit g n ds
 moved-fits f g n p d cs ds step fit path t j i a b x y =
     path .each t j i a b x y ∙ ap (movedBy (counts t j i p) d) (fit t j i a b x y) ∙ step t j i a y
 
 -- one bit more, every counter that counts it one more
 pub raised-fits : (f g : ℕ → ℕ) (n p : ℕ) (cs ds : List ℕ) → OneMore f g p → ((q : ℕ) → g q ≤ 1) → ((q : ℕ) → 134217728 ≤ q → g q ≡ 0)
-    → AllFit f n cs → PathRaised n p 1 cs ds → AllFit g n ds
+    → AllFit f n cs → PathMovedBy n p 1 cs ds → AllFit g n ds
 raised-fits f g n p cs ds more small high =
     moved-fits f g n p 1 cs ds (λ t j i a y. step t j i (counts t j i p) (counter-flip more t j i a y) (counter-lt g t j i y small high))
   where
@@ -112,7 +112,7 @@ raised-fits f g n p cs ds more small high =
 
 -- one bit less, every counter that counts it one less
 pub lowered-fits : (f g : ℕ → ℕ) (n p : ℕ) (cs ds : List ℕ) → OneMore g f p → ((q : ℕ) → f q ≤ 1) → ((q : ℕ) → 134217728 ≤ q → f q ≡ 0)
-    → AllFit f n cs → PathRaised n p 4294967295 cs ds → AllFit g n ds
+    → AllFit f n cs → PathMovedBy n p 4294967295 cs ds → AllFit g n ds
 lowered-fits f g n p cs ds more small high =
     moved-fits f g n p 4294967295 cs ds (λ t j i a y. step t j i (counts t j i p) (counter-flip more t j i a y) (counter-lt f t j i y small high))
   where
@@ -136,7 +136,7 @@ put-less ws vs p old put =
 pub put-bit : (ws vs : List ℕ) (p b : ℕ) → RangePut ws p (p + 1) b vs → BitPut p b ws vs
 put-bit ws vs p b put = record { long = put .long; here = put .inside p (le-refl p) (omega arith); there = put-other ws vs p b put }
 
-pub path-moved : (n p d : ℕ) (cs ds : List ℕ) → PathRaised n p d cs ds → PathMoved n p cs ds
+pub path-moved : (n p d : ℕ) (cs ds : List ℕ) → PathMovedBy n p d cs ds → PathMoved n p cs ds
 path-moved n p d cs ds path =
     record {
       long = path .long;
@@ -156,4 +156,4 @@ rebuilt-is c m x y s vs ds e lv ld small clean fit =
 -- ---- the ones held
 pub held-ones : (vs : List ℕ) (n c : ℕ) (s : List ℕ) → stripOf vs n ≡ s → n ≤ c → PastZero vs n → ones (bitAt vs) c ≡ rank s 1 n
 held-ones vs n c s e h clean =
-    ones-flat (bitAt vs) n c h clean ∙ sym (rank-ones (bitAt vs) n (bitAt-le vs)) ∙ sym (strip-rank vs n 1 n (le-refl n)) ∙ ap (λ (t : List ℕ). rank t 1 n) e
+    sum-flat (bitAt vs) n c h clean ∙ sym (rank-ones (bitAt vs) n (bitAt-le vs)) ∙ sym (strip-rank vs n 1 n (le-refl n)) ∙ ap (λ (t : List ℕ). rank t 1 n) e

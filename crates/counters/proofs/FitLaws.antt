@@ -7,10 +7,10 @@ use native.Mathlib.Omega.{arith}
 use lib.Dec.{lit<}
 use lib.ListN.{getD, take, drop}
 use Rattle.words.specs.Bits.{ones}
-use Rattle.words.proofs.Sums.{ones-flat, part-at}
+use Rattle.words.proofs.Sums.{sum-flat, part-at}
 use Rattle.counters.specs.Tree.{nodes, height, childBits, childOnes, fromChild, toChild, counter}
 use Rattle.counters.specs.Record.{AllFit}
-use Rattle.counters.specs.Working.{Node, LevelFits}
+use Rattle.counters.specs.Working.{TreeOver, Node, LevelFits}
 use Rattle.counters.proofs.TreeLaws.{height-pos, nodes-root, root-covers, prefix, prefix-zero, prefix-up, prefix-suc, from-summary, to-summary, from-key, to-key, counter-prefix, start, index-is}
 
 -- where the counters of a level that fits stand
@@ -48,18 +48,18 @@ counter-ones f t m =
     )
 
 -- the ones of n blocks, by the root's counters 7 and 71
-pub root-ones : (f : ℕ → ℕ) (n : ℕ) (xs : List ℕ) → 0 < n → n ≤ 262144 → AllFit f n xs → ((p : ℕ) → 512 * n ≤ p → f p ≡ 0)
+pub root-ones : (f : ℕ → ℕ) (n : ℕ) (xs : List ℕ) → TreeOver n xs → AllFit f n xs → ((p : ℕ) → 512 * n ≤ p → f p ≡ 0)
     → getD xs 7 0 + getD xs 71 0 ≡ ones f (512 * n)
-root-ones f n xs pos most fit clean =
+root-ones f n xs T fit clean =
     omega (arith, root 7 (lit< tt), root 71 (lit< tt), node (height n) (height-pos n))
     ∙ ap (ones f) (mul-one (childBits (suc (height n))))
-    ∙ ones-flat f (512 * n) (childBits (suc (height n))) (root-covers n most) clean
+    ∙ sum-flat f (512 * n) (childBits (suc (height n))) (root-covers n (T .few)) clean
   where
     root : (i : ℕ) → i < 72 → getD xs i 0 ≡ counter f (height n) 0 i
     root i l =
         let e : i ≡ start n (height n) + 72 * 0 + i = omega arith in
         ap (λ (x : ℕ). getD xs x 0) e
-        ∙ fit-at f n xs (height n) (λ j k. fit (height n) j k (height-pos n) (le-refl (height n))) 0 i (omega (arith, nodes-root n pos most)) l
+        ∙ fit-at f n xs (height n) (λ j k. fit (height n) j k (height-pos n) (le-refl (height n))) 0 i (omega (arith, nodes-root n T)) l
 
     node : (t : ℕ) → 1 ≤ t → counter f t 0 7 + counter f t 0 71 ≡ prefix f (suc t) 1
     node zero h = absurd (omega arith)

@@ -8,7 +8,7 @@ use native.Mathlib.Omega.{arith}
 use lib.Dec.{leb, ltb, eqb}
 use borrow.Author.Tests.{le-leb, lt-leb, lt-ltb, le-ltb, eq-eqb, ne-eqb, eqb-true, eqb-false}
 use Rattle.words.specs.Bits.{ones}
-use Rattle.words.proofs.Sums.{lt-or, ones-zero, ones-suc, ones-split, ones-ext, ones-most, ones-none, ones-outside, ones-range}
+use Rattle.words.proofs.Sums.{lt-or, sum-zero, sum-suc, sum-split, sum-ext, sum-most, sum-none, sum-outside, sum-range}
 use Rattle.words.proofs.BoolLaws.{and-intro}
 use Rattle.counters.specs.Tree.{nodes, height, childBits, fromChild, toChild, counter, childOf, slot, counts, changeCount}
 use Rattle.counters.proofs.TreeLaws.{childBits-pos, childOf-suc, height-le, nodes-cover, prefix, counter-prefix, from-summary, to-summary, from-key, to-key, from-to}
@@ -25,9 +25,9 @@ ones-flip {f} {g} {p} h n = go (lt-or p n)
   where
     go : (p < n) ⊎ (n ≤ p) → ones g n ≡ ones f n + cond (ltb p n) 1 0
     go (inl l) =
-        let o = ones-outside g f p (suc p) n (omega arith) l (λ q k. h .else q (λ e. omega arith)) (λ q k u. h .else q (λ e. omega arith)) in
-        rw (lt-ltb p n l) (omega (arith, o .0, o .1, ones-suc f p, ones-suc g p, h .up))
-    go (inr l) = rw (le-ltb p n l) (ones-ext g f n (λ q k. h .else q (λ e. omega arith)) ∙ omega arith)
+        let o = sum-outside g f p (suc p) n (omega arith) l (λ q k. h .else q (λ e. omega arith)) (λ q k u. h .else q (λ e. omega arith)) in
+        rw (lt-ltb p n l) (omega (arith, o .0, o .1, sum-suc f p, sum-suc g p, h .up))
+    go (inr l) = rw (le-ltb p n l) (sum-ext g f n (λ q k. h .else q (λ e. omega arith)) ∙ omega arith)
 
 -- a stroke lies below the end of m children when its child is below m
 pub child-below : (t p m : ℕ) → ltb p (childBits (suc t) * m) ≡ ltb (childOf (suc t) p) m
@@ -105,8 +105,8 @@ counter-flip {f} {g} {p} h (suc t) j i a l =
 ones-between : (f : ℕ → ℕ) (a e n : ℕ) → a ≤ e → e ≤ n → ((i : ℕ) → i < a → f i ≡ 0) → ((i : ℕ) → a ≤ i → i < e → f i ≡ 1)
     → ((i : ℕ) → e ≤ i → i < n → f i ≡ 0) → ones f n ≡ e - a
 ones-between f a e n la le under inside over =
-    let none : (m : ℕ) → ones (λ _. 0) m ≡ 0 = (λ m. ones-none (λ _. 0) m (λ j l. refl)) in
-    omega (arith, ones-range f (λ _. 0) a e n 1 la le under inside over, none n, none e, none a)
+    let none : (m : ℕ) → ones (λ _. 0) m ≡ 0 = (λ m. sum-none (λ _. 0) m (λ j l. refl)) in
+    omega (arith, sum-range f (λ _. 0) a e n 1 la le under inside over, none n, none e, none a)
 
 -- 1 for a test that holds
 yes-one : {b : Bool} → b ≡ true → cond {A = ℕ} b 1 0 ≡ 1
@@ -143,11 +143,11 @@ node-changed t j p = go (eqb j (childOf t p / 64)) refl
         let q : j ≡ childOf t p / 64 = eqb-true j (childOf t p / 64) e in
         let c : childOf t p ≡ 64 * j + slot t p = omega arith in
         let l : slot t p < 64 = omega arith in
-        ones-split (λ i. cond (counts t j i p) 1 0) 8 64
+        sum-split (λ i. cond (counts t j i p) 1 0) 8 64
         ∙ ap₂ (λ (x y : ℕ). x + y) (summaries-changed t j p (slot t p) c l) (keys-changed t j p (slot t p) c l)
         ∙ omega arith
     go false e =
-        ones-none (λ i. cond (counts t j i p) 1 0) 72 (λ i l. no-zero (none i l (lt-or (childOf t p / 64) j)))
+        sum-none (λ i. cond (counts t j i p) 1 0) 72 (λ i l. no-zero (none i l (lt-or (childOf t p / 64) j)))
       where
         none : (i : ℕ) → i < 72 → (childOf t p / 64 < j) ⊎ (j ≤ childOf t p / 64) → counts t j i p ≡ false
         none i l (inl u) = counts-before t j i p (omega arith)
@@ -166,19 +166,19 @@ child-lt n (suc t) p a h = omega (arith, childOf-suc t p, child-there n (suc t) 
 
 -- a sum over n rows of w
 pub ones-rows : (f : ℕ → ℕ) (w n : ℕ) → ones f (w * n) ≡ ones (λ j. ones (λ i. f (w * j + i)) w) n
-ones-rows f w zero = ap (ones f) (mul-zero w) ∙ ones-zero f ∙ sym (ones-zero (λ j. ones (λ i. f (w * j + i)) w))
+ones-rows f w zero = ap (ones f) (mul-zero w) ∙ sum-zero f ∙ sym (sum-zero (λ j. ones (λ i. f (w * j + i)) w))
 ones-rows f w (suc n) =
     ap (ones f) (mul-suc w n)
-    ∙ ones-split f (w * n) w
+    ∙ sum-split f (w * n) w
     ∙ ap (λ (s : ℕ). s + ones (λ i. f (w * n + i)) w) (ones-rows f w n)
-    ∙ sym (ones-suc (λ j. ones (λ i. f (w * j + i)) w) n)
+    ∙ sym (sum-suc (λ j. ones (λ i. f (w * j + i)) w) n)
 
 -- a sum with one term that is not 0
 pub ones-only : (f : ℕ → ℕ) (q n : ℕ) → q < n → ((j : ℕ) → (j ≡ q → ⊥) → f j ≡ 0) → ones f n ≡ f q
 ones-only f q n h zeros =
-    let o = ones-outside f (λ _. 0) q (suc q) n (omega arith) h (λ j l. zeros j (λ e. omega arith)) (λ j l u. zeros j (λ e. omega arith)) in
-    let none : (m : ℕ) → ones (λ _. 0) m ≡ 0 = (λ m. ones-none (λ _. 0) m (λ j l. refl)) in
-    omega (arith, o .0, o .1, none n, none (suc q), none q, ones-suc f q)
+    let o = sum-outside f (λ _. 0) q (suc q) n (omega arith) h (λ j l. zeros j (λ e. omega arith)) (λ j l u. zeros j (λ e. omega arith)) in
+    let none : (m : ℕ) → ones (λ _. 0) m ≡ 0 = (λ m. sum-none (λ _. 0) m (λ j l. refl)) in
+    omega (arith, o .0, o .1, none n, none (suc q), none q, sum-suc f q)
 
 -- of a level's counters, those of the node on the path alone
 pub level-changed : (n t p : ℕ) → 1 ≤ t → p < 512 * n
@@ -188,11 +188,11 @@ level-changed n t p a h =
     let d : ℕ = 15 - slot t p % 8 - slot t p / 8 in
     let node : (j : ℕ) → ones (λ i. cond (counts t ((72 * j + i) / 72) ((72 * j + i) % 72) p) 1 0) 72 ≡ cond (eqb j q) d 0 =
     (λ j.
-    ones-ext (λ i. cond (counts t ((72 * j + i) / 72) ((72 * j + i) % 72) p) 1 0) (λ i. cond (counts t j i p) 1 0) 72
+    sum-ext (λ i. cond (counts t ((72 * j + i) / 72) ((72 * j + i) % 72) p) 1 0) (λ i. cond (counts t j i p) 1 0) 72
     (λ i l. ap₂ (λ (x y : ℕ). cond (counts t x y p) 1 0) (omega arith) (omega arith))
     ∙ node-changed t j p) in
     ones-rows (λ y. cond (counts t (y / 72) (y % 72) p) 1 0) 72 (nodes n t)
-    ∙ ones-ext (λ j. ones (λ i. cond (counts t ((72 * j + i) / 72) ((72 * j + i) % 72) p) 1 0) 72) (λ j. cond (eqb j q) d 0) (nodes n t) (λ j l. node j)
+    ∙ sum-ext (λ j. ones (λ i. cond (counts t ((72 * j + i) / 72) ((72 * j + i) % 72) p) 1 0) 72) (λ j. cond (eqb j q) d 0) (nodes n t) (λ j l. node j)
     ∙ ones-only (λ j. cond (eqb j q) d 0) q (nodes n t) (child-lt n t p a h) (λ j e. simp (ne-eqb j q e))
     ∙ simp (eq-eqb q q refl)
 
@@ -201,11 +201,12 @@ pub changed-number : (n p : ℕ) → p < 512 * n
     → ones (λ s. ones (λ y. cond (counts (s + 1) (y / 72) (y % 72) p) 1 0) (72 * nodes n (s + 1))) (height n) ≡ changeCount n p
 unfolding changeCount
 changed-number n p h =
-    ones-ext (λ s. ones (λ y. cond (counts (s + 1) (y / 72) (y % 72) p) 1 0) (72 * nodes n (s + 1))) (λ s. 15 - slot (s + 1) p % 8 - slot (s + 1) p / 8) (height n)
+    sum-ext (λ s. ones (λ y. cond (counts (s + 1) (y / 72) (y % 72) p) 1 0) (72 * nodes n (s + 1)))
+    (λ s. 15 - slot (s + 1) p % 8 - slot (s + 1) p / 8) (height n)
     (λ s l. level-changed n (s + 1) p (omega arith) h)
 
 -- never more than 15 at each of three levels
 pub changeCount-le : (n p : ℕ) → changeCount n p ≤ 45
 unfolding changeCount
 changeCount-le n p =
-    omega (arith, ones-most (λ s. 15 - slot (s + 1) p % 8 - slot (s + 1) p / 8) 15 (height n) (λ s. omega arith), height-le n)
+    omega (arith, sum-most (λ s. 15 - slot (s + 1) p % 8 - slot (s + 1) p / 8) 15 (height n) (λ s. omega arith), height-le n)

@@ -1,9 +1,9 @@
 pub mod TreeLaws
 pub mod FlipLaws
 pub mod FitLaws
-pub mod BuiltLaws
+pub mod AfreshLaws
 pub mod SpliceLaws
-pub mod RaiseLaws
+pub mod PathLaws
 pub mod RankLaws
 pub mod BuildLaws
 pub mod SelectionLaws

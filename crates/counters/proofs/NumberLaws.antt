@@ -13,12 +13,12 @@ use lib.Seq.{getD-append-seam, getD-append-add, getD-set-same, getD-set-other}
 use borrow.Author.Tests.{eq-eqb, ne-eqb, eqb-true, eqb-false}
 use Rattle.words.specs.Bits.{ones, listOf}
 use Rattle.words.specs.Strip.{cell}
-use Rattle.words.proofs.Sums.{lt-or, ones-zero, ones-suc, ones-split, ones-ext, length-listOf, getD-listOf}
+use Rattle.words.proofs.Sums.{lt-or, sum-zero, sum-suc, sum-split, sum-ext, length-listOf, getD-listOf}
 use Rattle.counters.specs.Tree.{blocksOf, nodes, height, counter, total, counterCount, counts, changeCount, levels, differ}
 use Rattle.counters.specs.Record.{builtCounters}
 use Rattle.counters.proofs.TreeLaws.{total-zero, total-suc}
 use Rattle.counters.proofs.FlipLaws.{OneMore, counter-flip, changed-number}
-use Rattle.counters.proofs.BuiltLaws.{levels-ext}
+use Rattle.counters.proofs.AfreshLaws.{levels-ext}
 
 -- ---- two lists
 -- a test of equality, either way
@@ -32,18 +32,18 @@ eqb-sym a b = go (eqb a b) refl
 -- as many either way
 pub differ-sym : (xs ys : List ℕ) (n : ℕ) → differ xs ys n ≡ differ ys xs n
 differ-sym xs ys n =
-    ones-ext (λ x. cond (eqb (getD xs x 0) (getD ys x 0)) 0 1) (λ x. cond (eqb (getD ys x 0) (getD xs x 0)) 0 1) n
+    sum-ext (λ x. cond (eqb (getD xs x 0) (getD ys x 0)) 0 1) (λ x. cond (eqb (getD ys x 0) (getD xs x 0)) 0 1) n
     (λ x l. ap (λ (t : Bool). cond {A = ℕ} t 0 1) (eqb-sym (getD xs x 0) (getD ys x 0)))
 
 -- in two lists joined, the numbers of the first two and of the second two
 differ-append : (xs ys us vs : List ℕ) (a b : ℕ) → length xs ≡ a → length ys ≡ a → differ (xs ++ us) (ys ++ vs) (a + b) ≡ differ xs ys a + differ us vs b
 differ-append xs ys us vs a b lx ly =
-    ones-split (λ x. cond (eqb (getD (xs ++ us) x 0) (getD (ys ++ vs) x 0)) 0 1) a b
+    sum-split (λ x. cond (eqb (getD (xs ++ us) x 0) (getD (ys ++ vs) x 0)) 0 1) a b
     ∙ ap₂ (λ (x y : ℕ). x + y)
-    (ones-ext (λ x. cond (eqb (getD (xs ++ us) x 0) (getD (ys ++ vs) x 0)) 0 1) (λ x. cond (eqb (getD xs x 0) (getD ys x 0)) 0 1) a
+    (sum-ext (λ x. cond (eqb (getD (xs ++ us) x 0) (getD (ys ++ vs) x 0)) 0 1) (λ x. cond (eqb (getD xs x 0) (getD ys x 0)) 0 1) a
     (λ x l.
     ap₂ (λ (x y : ℕ). cond {A = ℕ} (eqb x y) 0 1) (List·getD-append xs us 0 x (omega (arith, lx))) (List·getD-append ys vs 0 x (omega (arith, ly)))))
-    (ones-ext (λ x. cond (eqb (getD (xs ++ us) (a + x) 0) (getD (ys ++ vs) (a + x) 0)) 0 1) (λ x. cond (eqb (getD us x 0) (getD vs x 0)) 0 1) b
+    (sum-ext (λ x. cond (eqb (getD (xs ++ us) (a + x) 0) (getD (ys ++ vs) (a + x) 0)) 0 1) (λ x. cond (eqb (getD us x 0) (getD vs x 0)) 0 1) b
     (λ x l.
     ap₂ (λ (x y : ℕ). cond {A = ℕ} (eqb x y) 0 1)
     (ap (λ (k : ℕ). getD (xs ++ us) (k + x) 0) (sym lx) ∙ getD-append-add xs us x 0)
@@ -67,7 +67,7 @@ module _ (f g : ℕ → ℕ) (n p : ℕ) (more : OneMore f g p) where
   -- of a level, those differ that count the stroke
   level-number : (t : ℕ) → 1 ≤ t → differ (level f t) (level g t) (72 * nodes n t) ≡ counting t
   level-number t h =
-      ones-ext (λ y. cond (eqb (getD (level f t) y 0) (getD (level g t) y 0)) 0 1) (λ y. cond (counts t (y / 72) (y % 72) p) 1 0) (72 * nodes n t)
+      sum-ext (λ y. cond (eqb (getD (level f t) y 0) (getD (level g t) y 0)) 0 1) (λ y. cond (counts t (y / 72) (y % 72) p) 1 0) (72 * nodes n t)
       (λ y l.
       differ-test (counts t (y / 72) (y % 72) p) (getD (level f t) y 0) (getD (level g t) y 0)
       (getD-listOf (λ y. counter g t (y / 72) (y % 72)) (72 * nodes n t) y l
@@ -79,7 +79,7 @@ module _ (f g : ℕ → ℕ) (n p : ℕ) (more : OneMore f g p) where
   unfolding levels
   levels-number zero =
       let e : 72 * total n 0 ≡ 0 = omega (arith, total-zero n) in
-      ap (differ [] []) e ∙ ones-zero (λ x. cond (eqb (getD [] x 0) (getD [] x 0)) 0 1) ∙ sym (ones-zero (λ s. counting (s + 1)))
+      ap (differ [] []) e ∙ sum-zero (λ x. cond (eqb (getD [] x 0) (getD [] x 0)) 0 1) ∙ sym (sum-zero (λ s. counting (s + 1)))
   levels-number (suc t) =
       let e : 72 * total n (suc t) ≡ 72 * nodes n (suc t) + 72 * total n t = omega (arith, total-suc n t) in
       let s : suc t ≡ t + 1 = omega arith in
@@ -88,7 +88,7 @@ module _ (f g : ℕ → ℕ) (n p : ℕ) (more : OneMore f g p) where
       (length-listOf (λ y. counter f (suc t) (y / 72) (y % 72)) (72 * nodes n (suc t)))
       (length-listOf (λ y. counter g (suc t) (y / 72) (y % 72)) (72 * nodes n (suc t)))
       ∙ ap₂ (λ (x y : ℕ). x + y) (level-number (suc t) (omega arith) ∙ ap counting s) (levels-number t)
-      ∙ omega (arith, ones-suc (λ s. counting (s + 1)) t)
+      ∙ omega (arith, sum-suc (λ s. counting (s + 1)) t)
 
   -- of all
   pub number-up : p < 512 * n → differ (levels f n (height n)) (levels g n (height n)) (counterCount n) ≡ changeCount n p
@@ -100,12 +100,12 @@ module _ (f g : ℕ → ℕ) (n p : ℕ) (more : OneMore f g p) where
 
 -- ---- a strip with one bit turned
 -- a cell made one more
-pub set-more : (s : List ℕ) (p b : ℕ) → p < length s → b ≡ cell s p + 1 → OneMore (cell s) (cell (set s p b)) p
-set-more s p b h e = record { up = getD-set-same s p b 0 h ∙ e; else = (λ q d. getD-set-other s p q b 0 d) }
+pub set-up : (s : List ℕ) (p b : ℕ) → p < length s → b ≡ cell s p + 1 → OneMore (cell s) (cell (set s p b)) p
+set-up s p b h e = record { up = getD-set-same s p b 0 h ∙ e; else = (λ q d. getD-set-other s p q b 0 d) }
 
 -- a cell made one less
-pub set-less : (s : List ℕ) (p b : ℕ) → p < length s → cell s p ≡ b + 1 → OneMore (cell (set s p b)) (cell s) p
-set-less s p b h e =
+pub set-down : (s : List ℕ) (p b : ℕ) → p < length s → cell s p ≡ b + 1 → OneMore (cell (set s p b)) (cell s) p
+set-down s p b h e =
     record { up = e ∙ ap (λ (x : ℕ). x + 1) (sym (getD-set-same s p b 0 h)); else = (λ q d. sym (getD-set-other s p q b 0 d)) }
 
 -- the counters laid afresh differ in as many places as turn answers
@@ -118,9 +118,9 @@ flip-number c s p whole within below small = go (lt-or (cell s p) 1)
         → differ (levels (cell s) (blocksOf c) (height (blocksOf c)))
         (levels (cell (set s p (1 - cell s p))) (blocksOf c) (height (blocksOf c))) (counterCount (blocksOf c)) ≡ changeCount (blocksOf c) p
     go (inl l) =
-        number-up (cell s) (cell (set s p (1 - cell s p))) (blocksOf c) p (set-more s p (1 - cell s p) below (omega arith)) (omega arith)
+        number-up (cell s) (cell (set s p (1 - cell s p))) (blocksOf c) p (set-up s p (1 - cell s p) below (omega arith)) (omega arith)
     go (inr l) =
-        number-down (cell (set s p (1 - cell s p))) (cell s) (blocksOf c) p (set-less s p (1 - cell s p) below (omega arith)) (omega arith)
+        number-down (cell (set s p (1 - cell s p))) (cell s) (blocksOf c) p (set-down s p (1 - cell s p) below (omega arith)) (omega arith)
 
 -- ---- a strip with one bit appended
 -- the cells but the new one stay

@@ -3,7 +3,7 @@ use mathlib.Core.Path.{_≡_, refl, sym, ap, ap₂, _∙_, subst}
 use mathlib.Core.Bool.{cond}
 use mathlib.Core.Logic.{_⊎_, inl, inr}
 use mathlib.Core.List.{List, [], _∷_, _++_}
-use mathlib.Core.Option.{some, none}
+use mathlib.Core.Option.{Option, some, none}
 use Prim.Native.Nat.{ℕ, _+_, _-_, _/_, _%_, _^_, _≤_, _<_}
 use native.Mathlib.Omega.{arith}
 use lib.Dec.{eqb}
@@ -11,22 +11,22 @@ use lib.ListN.{length, getD, set, take}
 use borrow.Author.Tests.{eqb-true, eq-eqb, ne-eqb}
 use Rattle.words.specs.Bits.{bitAt, ones}
 use Rattle.words.specs.Strip.{cell, rank}
-use Rattle.words.specs.Refusals.{numberOf, Line, judge, verdictOf}
+use Rattle.words.specs.Refusals.{numberOf, Line, judge, unless, verdictOf}
 use Rattle.words.specs.Handles.{handle}
 use Rattle.words.specs.Working.{RangePut}
 use Rattle.words.specs.declared.handle.Handle.{Handle}
 use Rattle.words.specs.declared.refusal.Refusal.{Refusal}
 use Rattle.words.specs.declared.refusal.Verdict.{Verdict}
-use Rattle.words.specs.declared.refusal.Verdict.the-variants.{Refuse}
+use Rattle.words.specs.declared.refusal.Verdict.the-variants.{Pass, Refuse}
 use Rattle.words.proofs.Sums.{lt-or}
 use Rattle.words.proofs.WordLaws.{bitAt-le, bitAt-past}
-use Rattle.words.proofs.CheckLaws.{not-both, judged-refuse, Passes, passes, passed-both, checked}
+use Rattle.words.proofs.CheckLaws.{not-both, judged-refuse, judged-pass, Passes, passes, passed-both, checked}
 use Rattle.words.proofs.StripLaws.{strip-cell}
 use Rattle.counters.specs.Tree.{blocksOf, counterCount, changeCount}
 use Rattle.counters.specs.Record.{Fits, AllFit}
-use Rattle.counters.specs.Working.{PathRaised}
+use Rattle.counters.specs.Working.{TreeOver, PathMovedBy}
 use Rattle.counters.specs.Promises.{done, outcome, Promise, Near, near}
-use Rattle.counters.specs.Calls.{checks, held, rebuilt, pushTable, Pushed, flipTable, Flipped, filled}
+use Rattle.counters.specs.Calls.{checks, heldStrip, rebuilt, pushTable, Pushed, flipTable, Flipped, filled}
 use Rattle.counters.proofs.FlipLaws.{changeCount-le}
 use Rattle.counters.proofs.ChangeLaws as C
 
@@ -46,6 +46,12 @@ pub promise-passed : {A : Type 0} (t : List Line) (refuse : ℕ → A) (late : A
 promise-passed t refuse late Fit Loose o j exact loose =
     record { early = (λ n h. not-both h j); exact = (λ h f. exact f); loose = (λ h. loose) }
 
+-- a promise where the record fits
+pub promise-exact : {A : Type 0} {refuse : ℕ → A} {late : A} {Fit : Type 0} {Loose : A → Type 0} {o : A} (table : Option ℕ)
+    → Promise A table refuse late Fit Loose o → Fit → o ≡ unless table refuse late
+promise-exact none p f = p .exact refl f
+promise-exact (some n) p f = p .early n refl
+
 -- ---- what the checks leave
 pub record Sizes (h : Handle) (ws cs : List ℕ) : Type 0 where
   pub step : h .capacity % 512 ≡ 0
@@ -60,6 +66,10 @@ sizes h ws cs p =
     let k = checked h (length ws) (eqb (length cs) (counterCount (blocksOf (h .capacity)))) p in
     record { step = k .step; least = k .least; most = k .most; long = k .long; words = k .count; counters = eqb-true _ _ (k .counters) }
 
+-- the tree of a record
+pub tree-over : {h : Handle} {ws cs : List ℕ} → Sizes h ws cs → TreeOver (blocksOf (h .capacity)) cs
+tree-over z = record { size = z .counters; some = omega (arith, z .least); few = omega (arith, z .most) }
+
 -- a table that starts with the checks, and passes
 pub sizes-of : (h : Handle) (ws cs : List ℕ) (ls : List Line) → judge (checks h (length ws) (length cs) ++ ls) ≡ none → Sizes h ws cs
 sizes-of h ws cs ls p = sizes h ws cs (passed-both (checks h (length ws) (length cs)) ls p .0)
@@ -68,6 +78,19 @@ sizes-of h ws cs ls p = sizes h ws cs (passed-both (checks h (length ws) (length
 pub lines-of : (h : Handle) (ws cs : List ℕ) (ls : List Line) → judge (checks h (length ws) (length cs) ++ ls) ≡ none → Passes ls
 lines-of h ws cs ls p = passes ls (passed-both (checks h (length ws) (length cs)) ls p .1)
 
+-- what a check of a record leaves where it passes: its table, the sizes, and the call's own lines
+pub record PassedRecord (h : Handle) (ws cs : List ℕ) (ls : List Line) : Type 0 where
+  pub table : judge (checks h (length ws) (length cs) ++ ls) ≡ none
+  pub known : Sizes h ws cs
+  pub own : Passes ls
+
+-- by its verdict
+pub record-passed : (h : Handle) (ws cs : List ℕ) (ls : List Line) (v : Verdict) → verdictOf v ≡ judge (checks h (length ws) (length cs) ++ ls) → v ≡ Pass
+    → PassedRecord h ws cs ls
+record-passed h ws cs ls v e d =
+    let p = judged-pass (checks h (length ws) (length cs) ++ ls) v e d in
+    record { table = p; known = sizes-of h ws cs ls p; own = lines-of h ws cs ls p }
+
 -- no bit stands past the most capacity
 pub high-zero : (h : Handle) (ws cs vs : List ℕ) → Sizes h ws cs → length vs ≡ length ws → (q : ℕ) → 134217728 ≤ q → bitAt vs q ≡ 0
 high-zero h ws cs vs z l q a = bitAt-past vs q (omega (arith, z .words, z .most))
@@ -75,7 +98,7 @@ high-zero h ws cs vs z l q a = bitAt-past vs q (omega (arith, z .words, z .most)
 -- ---- turn
 module _ (h : Handle) (ws vs cs ds : List ℕ) (i number d : ℕ) (z : Sizes h ws cs) (below : i < h .length)
     (put : RangePut ws i (i + 1) (1 - bitAt ws i) vs) (small : (k : ℕ) → getD vs k 0 < 2 ^ 64)
-    (path : PathRaised (blocksOf (h .capacity)) i d cs ds) (count : number ≡ changeCount (blocksOf (h .capacity)) i)
+    (path : PathMovedBy (blocksOf (h .capacity)) i d cs ds) (count : number ≡ changeCount (blocksOf (h .capacity)) i)
     (step : d ≡ cond (eqb (1 - bitAt ws i) 1) 1 (2 ^ 32 - 1)) where
   -- the counters fit the changed words
   flip-fits : AllFit (bitAt ws) (blocksOf (h .capacity)) cs → AllFit (bitAt vs) (blocksOf (h .capacity)) ds
@@ -87,23 +110,23 @@ module _ (h : Handle) (ws vs cs ds : List ℕ) (i number d : ℕ) (z : Sizes h w
           let up : d ≡ 1 = step ∙ simp (eq-eqb (1 - bitAt ws i) 1 b) in
           C.raised-fits (bitAt ws) (bitAt vs) (blocksOf (h .capacity)) i cs ds
           (C.put-more ws vs i (omega arith) (subst (λ (x : ℕ). RangePut ws i (i + 1) x vs) b put))
-          (bitAt-le vs) (high-zero h ws cs vs z (put .long)) fit (subst (λ (x : ℕ). PathRaised (blocksOf (h .capacity)) i x cs ds) up path)
+          (bitAt-le vs) (high-zero h ws cs vs z (put .long)) fit (subst (λ (x : ℕ). PathMovedBy (blocksOf (h .capacity)) i x cs ds) up path)
       go (inr l) =
           let o : bitAt ws i ≡ 1 = omega (arith, bitAt-le ws i) in
           let b : 1 - bitAt ws i ≡ 0 = omega arith in
           let down : d ≡ 4294967295 = step ∙ simp (ne-eqb (1 - bitAt ws i) 1 (λ e. omega arith)) in
           C.lowered-fits (bitAt ws) (bitAt vs) (blocksOf (h .capacity)) i cs ds
           (C.put-less ws vs i o (subst (λ (x : ℕ). RangePut ws i (i + 1) x vs) b put))
-          (bitAt-le ws) (high-zero h ws cs ws z refl) fit (subst (λ (x : ℕ). PathRaised (blocksOf (h .capacity)) i x cs ds) down path)
+          (bitAt-le ws) (high-zero h ws cs ws z refl) fit (subst (λ (x : ℕ). PathMovedBy (blocksOf (h .capacity)) i x cs ds) down path)
 
   pub flip-done : judge (flipTable h (length ws) (length cs) i) ≡ none → Flipped h i ws cs (outcome (done h (1 - bitAt ws i) number) vs ds)
   flip-done pass =
-      let e : 1 - bitAt ws i ≡ 1 - cell (held h ws) i = ap (λ (b : ℕ). 1 - b) (sym (strip-cell ws (h .length) i below)) in
+      let e : 1 - bitAt ws i ≡ 1 - cell (heldStrip h ws) i = ap (λ (b : ℕ). 1 - b) (sym (strip-cell ws (h .length) i below)) in
       promise-passed (flipTable h (length ws) (length cs) i) _ _ (Fits h ws cs) _ (outcome (done h (1 - bitAt ws i) number) vs ds) pass
-      (λ f. C.rebuilt-is (h .capacity) (h .length) (1 - bitAt ws i) number (set (held h ws) i (1 - bitAt ws i)) vs ds
+      (λ f. C.rebuilt-is (h .capacity) (h .length) (1 - bitAt ws i) number (set (heldStrip h ws) i (1 - bitAt ws i)) vs ds
       (C.flip-strip ws vs (h .length) i (1 - bitAt ws i) below put) (put .long ∙ z .words) (path .long ∙ z .counters) small
       (C.put-clean ws vs i (i + 1) (h .length) (1 - bitAt ws i) put (omega arith) (f .clean)) (flip-fits (f .right))
-      ∙ ap₂ (λ (x y : ℕ). rebuilt (h .capacity) (set (held h ws) i x) x y) e count)
+      ∙ ap₂ (λ (x y : ℕ). rebuilt (h .capacity) (set (heldStrip h ws) i x) x y) e count)
       (subst (λ (x : ℕ). Near h h x i x ws cs (outcome (done h (1 - bitAt ws i) number) vs ds)) e
       (near number vs ds (omega (arith, count, changeCount-le (blocksOf (h .capacity)) i)) (C.put-bit ws vs i (1 - bitAt ws i) put)
       (C.path-moved (blocksOf (h .capacity)) i d cs ds path)))
@@ -121,12 +144,12 @@ module _ (h : Handle) (ws vs cs : List ℕ) (v : ℕ) (z : Sizes h ws cs) (room 
   push-with number ds count long fit loose =
       promise-passed (pushTable h (length ws) (length cs) v) _ _ (Fits h ws cs) _
       (outcome (done (handle (h .capacity) (h .length + 1)) (h .length) number) vs ds) pass
-      (λ f. C.rebuilt-is (h .capacity) (h .length + 1) (h .length) number (held h ws ++ (v ∷ [])) vs ds
+      (λ f. C.rebuilt-is (h .capacity) (h .length + 1) (h .length) number (heldStrip h ws ++ (v ∷ [])) vs ds
       (C.push-strip ws vs (h .length) v put) (put .long ∙ z .words) (long ∙ z .counters) small
       (C.put-clean ws vs (h .length) (h .length + 1) (h .length + 1) v put (native.Mathlib.Nat.le-refl (h .length + 1))
       (λ p l. f .clean p (omega arith)))
       (fit f)
-      ∙ ap (λ (y : ℕ). rebuilt (h .capacity) (held h ws ++ (v ∷ [])) (h .length) y) count)
+      ∙ ap (λ (y : ℕ). rebuilt (h .capacity) (heldStrip h ws ++ (v ∷ [])) (h .length) y) count)
       loose
 
   pub push-zero : v ≡ 0 → Pushed h v ws cs (outcome (done (handle (h .capacity) (h .length + 1)) (h .length) 0) vs cs)
@@ -144,7 +167,7 @@ module _ (h : Handle) (ws vs cs : List ℕ) (v : ℕ) (z : Sizes h ws cs) (room 
           go (no q) = sym (C.put-other ws vs (h .length) v put p q)
 
   pub push-one : (number : ℕ) (ds : List ℕ) → v ≡ 1 → number ≡ changeCount (blocksOf (h .capacity)) (h .length)
-      → PathRaised (blocksOf (h .capacity)) (h .length) 1 cs ds
+      → PathMovedBy (blocksOf (h .capacity)) (h .length) 1 cs ds
       → Pushed h v ws cs (outcome (done (handle (h .capacity) (h .length + 1)) (h .length) number) vs ds)
   push-one number ds e count path =
       push-with number ds (count ∙ sym (simp (eq-eqb v 1 e))) (path .long)
@@ -158,18 +181,20 @@ module _ (h : Handle) (ws vs cs : List ℕ) (v : ℕ) (z : Sizes h ws cs) (room 
 -- ---- run and cut: all counters laid from the words
 pub fill-done : (h : Handle) (ws us vs cs ds : List ℕ) (a b v x : ℕ) → Sizes h ws cs → RangePut ws a b v us → RangePut us (h .length) (h .capacity) 0 vs
     → ((k : ℕ) → getD vs k 0 < 2 ^ 64) → length ds ≡ length cs → x ≡ ones (bitAt vs) (h .capacity) → AllFit (bitAt vs) (blocksOf (h .capacity)) ds
-    → outcome (done h x 0) vs ds ≡ rebuilt (h .capacity) (filled (held h ws) a b v) (rank (filled (held h ws) a b v) 1 (h .length)) 0
+    → outcome (done h x 0) vs ds ≡ rebuilt (h .capacity) (filled (heldStrip h ws) a b v) (rank (filled (heldStrip h ws) a b v) 1 (h .length)) 0
 fill-done h ws us vs cs ds a b v x z put wipe small long count fit =
     let s = C.fill-strip ws us vs (h .length) a b v (h .capacity) put wipe in
     let clean = C.wipe-clean us vs (h .length) (h .capacity) wipe (omega (arith, put .long, z .words)) in
-    C.rebuilt-is (h .capacity) (h .length) x 0 (filled (held h ws) a b v) vs ds s (wipe .long ∙ put .long ∙ z .words) (long ∙ z .counters) small clean fit
-    ∙ ap (λ (y : ℕ). rebuilt (h .capacity) (filled (held h ws) a b v) y 0) (count ∙ C.held-ones vs (h .length) (h .capacity) (filled (held h ws) a b v) s (z .long) clean)
+    C.rebuilt-is (h .capacity) (h .length) x 0 (filled (heldStrip h ws) a b v) vs ds s (wipe .long ∙ put .long ∙ z .words) (long ∙ z .counters) small clean fit
+    ∙ ap (λ (y : ℕ). rebuilt (h .capacity) (filled (heldStrip h ws) a b v) y 0)
+    (count ∙ C.held-ones vs (h .length) (h .capacity) (filled (heldStrip h ws) a b v) s (z .long) clean)
 
 pub truncate-done : (h : Handle) (ws vs cs ds : List ℕ) (n x : ℕ) → Sizes h ws cs → n ≤ h .length → RangePut ws n (h .capacity) 0 vs
     → ((k : ℕ) → getD vs k 0 < 2 ^ 64) → length ds ≡ length cs → x ≡ ones (bitAt vs) (h .capacity) → AllFit (bitAt vs) (blocksOf (h .capacity)) ds
-    → outcome (done (handle (h .capacity) n) x 0) vs ds ≡ rebuilt (h .capacity) (take n (held h ws)) (rank (take n (held h ws)) 1 n) 0
+    → outcome (done (handle (h .capacity) n) x 0) vs ds ≡ rebuilt (h .capacity) (take n (heldStrip h ws)) (rank (take n (heldStrip h ws)) 1 n) 0
 truncate-done h ws vs cs ds n x z le wipe small long count fit =
     let s = C.cut-strip ws vs (h .length) n (h .capacity) le wipe in
     let clean = C.wipe-clean ws vs n (h .capacity) wipe (omega (arith, z .words)) in
-    C.rebuilt-is (h .capacity) n x 0 (take n (held h ws)) vs ds s (wipe .long ∙ z .words) (long ∙ z .counters) small clean fit
-    ∙ ap (λ (y : ℕ). rebuilt (h .capacity) (take n (held h ws)) y 0) (count ∙ C.held-ones vs n (h .capacity) (take n (held h ws)) s (omega (arith, z .long)) clean)
+    C.rebuilt-is (h .capacity) n x 0 (take n (heldStrip h ws)) vs ds s (wipe .long ∙ z .words) (long ∙ z .counters) small clean fit
+    ∙ ap (λ (y : ℕ). rebuilt (h .capacity) (take n (heldStrip h ws)) y 0)
+    (count ∙ C.held-ones vs n (h .capacity) (take n (heldStrip h ws)) s (omega (arith, z .long)) clean)

@@ -1,5 +1,5 @@
 -- The laws of counting before a position: in a node, up the levels, and in a block. Assumes nothing.
-use mathlib.Core.Path.{_≡_, ap, _∙_}
+use mathlib.Core.Path.{_≡_, ap, ap₂, _∙_}
 use mathlib.Core.List.{List}
 use Prim.Native.Nat.{ℕ, suc, _+_, _-_, _*_, _/_, _%_, _≤_, _<_}
 use native.Mathlib.Numerals.{add-one}
@@ -8,10 +8,11 @@ use lib.ListN.{getD, take, drop}
 use Rattle.words.specs.Bits.{bitAt, ones}
 use Rattle.words.proofs.Sums.{part-ones}
 use Rattle.words.proofs.WordLaws.{block-bit}
-use Rattle.counters.specs.Tree.{nodes, height, fromChild, toChild, counterCount}
+use Rattle.counters.specs.Tree.{nodes, height, fromChild, toChild}
 use Rattle.counters.specs.Record.{AllFit}
-use Rattle.counters.specs.Working.{Node}
-use Rattle.counters.proofs.TreeLaws.{nodes-root, childBits-one, prefix, prefix-zero, prefix-up, from-summary, to-summary, from-key, to-key, Level, level-blocks, level-next, level-room}
+use Rattle.counters.specs.Working.{mostPair, TreeOver, Node, Up}
+use Rattle.counters.specs.declared.shape.Climb.{Climb}
+use Rattle.counters.proofs.TreeLaws.{nodes-root, childBits-one, prefix, prefix-zero, prefix-up, from-summary, to-summary, from-key, to-key, ClimbAt, climb-up}
 use Rattle.counters.proofs.FitLaws.{node-fits}
 
 -- ---- in a node: the ones in its first c children
@@ -45,57 +46,49 @@ module _ (B : ℕ → ℕ) (j : ℕ) (xs : List ℕ) (node : Node B j xs) where
       omega (arith, summary-is (c / 8) (omega arith), key-is (c - 1) (omega arith), ap (λ (i : ℕ). getD xs i 0) a, ap B b, ap B d)
 
 -- ---- up the levels
--- After t levels: level t, a child of level t + 1, and the sum so far. Where the counters are as defined, the sum with the ones in the children
--- before it is the ones before the block.
-pub record Climbed (n block : ℕ) (xs : List ℕ) (t count child end sum : ℕ) : Type 0 where
-  pub level : Level n t count end
-  pub there : child < count
-  pub small : sum ≤ t * 8589934590
-  pub counted : (f : ℕ → ℕ) → AllFit f n xs → sum + prefix f (suc t) child ≡ ones f (512 * block)
+-- After t levels: a node of level t, and the sum so far. Where the counters are as defined, the sum with the ones before that node is the ones
+-- before the block.
+pub record Climbed (n block : ℕ) (xs : List ℕ) (t : ℕ) (c : Climb) (sum : ℕ) : Type 0 where
+  pub climb : ClimbAt n t c
+  pub small : sum ≤ t * mostPair
+  pub counted : (f : ℕ → ℕ) → AllFit f n xs → sum + prefix f (suc t) (c .node) ≡ ones f (512 * block)
 
 -- at the start: no level, and the block itself
-pub climbed-none : (n block : ℕ) (xs : List ℕ) (end : ℕ) → block < n → end ≡ counterCount n → Climbed n block xs 0 n block end 0
-climbed-none n block xs end l e =
+pub climbed-none : (n block : ℕ) (xs : List ℕ) (c : Climb) → ClimbAt n 0 c → c .node ≡ block → Climbed n block xs 0 c 0
+climbed-none n block xs c C e =
     record {
-      level = level-blocks n end e;
-      there = l;
+      climb = C;
       small = omega arith;
-      counted = (λ f fit. omega (arith, ap (λ (b : ℕ). ones f (b * block)) childBits-one));
+      counted = (λ f fit. omega (arith, ap₂ (λ (b m : ℕ). ones f (b * m)) childBits-one e));
     }
 
-module _ (n block : ℕ) (xs : List ℕ) (t count child end sum : ℕ) (now : Climbed n block xs t count child end sum) (l : t < height n) where
-  -- the next level ends where this one starts, and has the node of the child
-  pub climbed-room : (72 * ((count + 63) / 64) ≤ end) × (child / 64 < (count + 63) / 64) × (end ≤ counterCount n)
-  climbed-room = omega (arith, now .there, level-room (now .level) l)
+-- a level more, by what the node's counters give
+pub climbed-more : {n block : ℕ} {xs : List ℕ} {t : ℕ} {c r : Climb} {sum : ℕ} → Climbed n block xs t c sum → t < height n → Up c r
+    → (y w : ℕ) → y ≤ mostPair → w ≡ 72
+    → ((B : ℕ → ℕ) (j : ℕ) → Node B j (take w (drop (r .at) xs)) → y + B (64 * j) ≡ B (64 * j + r .slot))
+    → Climbed n block xs (t + 1) r (sum + y)
+climbed-more {n} {block} {xs} {t} {c} {r} {sum} now lower U y w small wide gives =
+    record { climb = climb-up (now .climb) lower U; small = omega (arith, now .small); counted = counted }
+  where
+    next : ClimbAt n (suc t) r
+    next = rw (← add-one t) (climb-up (now .climb) lower U)
 
-  -- a level more, by what the node's counters give
-  pub climbed-more : (r a w : ℕ) → r ≤ 8589934590 → a ≡ end - 72 * ((count + 63) / 64) + 72 * (child / 64) → w ≡ 72
-      → ((B : ℕ → ℕ) (j : ℕ) → Node B j (take w (drop a xs)) → r + B (64 * j) ≡ B (64 * j + child % 64))
-      → Climbed n block xs (t + 1) ((count + 63) / 64) (child / 64) (end - 72 * ((count + 63) / 64)) (sum + r)
-  climbed-more r a w small at wide gives =
-      record {
-        level = level-next (now .level) l;
-        there = climbed-room .1;
-        small = omega (arith, now .small);
-        counted = counted;
-      }
-    where
-      counted : (f : ℕ → ℕ) → AllFit f n xs → sum + r + prefix f (suc (t + 1)) (child / 64) ≡ ones f (512 * block)
-      counted f fit =
-          let j : ℕ = child / 64 in
-          let e : 64 * j + child % 64 ≡ child = omega arith in
-          let next : Level n (suc t) ((count + 63) / 64) (end - 72 * ((count + 63) / 64)) = rw (← add-one t) (level-next (now .level) l) in
-          let step = gives (prefix f (suc t)) j
-          (node-fits f n (suc t) j a w xs (λ i c. fit (suc t) i c (omega arith) l) (omega (arith, climbed-room .1, next .counted)) (omega (arith, at, next .starts)) wide) in
-          let up = ap (λ (k : ℕ). prefix f (suc k) j) (add-one t) ∙ prefix-up f t j in
-          omega (arith, now .counted f fit, step, ap (prefix f (suc t)) e, up)
+    counted : (f : ℕ → ℕ) → AllFit f n xs → sum + y + prefix f (suc (t + 1)) (r .node) ≡ ones f (512 * block)
+    counted f fit =
+        let j : ℕ = r .node in
+        let e : 64 * j + r .slot ≡ c .node = omega (arith, U .node-is, U .slot-is) in
+        let step = gives (prefix f (suc t)) j
+        (node-fits f n (suc t) j (r .at) w xs (λ i k. fit (suc t) i k (omega arith) lower)
+        (omega (arith, next .there, next .level .counted)) (omega (arith, U .at-is, next .level .starts)) wide) in
+        let up = ap (λ (k : ℕ). prefix f (suc k) j) (add-one t) ∙ prefix-up f t j in
+        omega (arith, now .counted f fit, step, ap (prefix f (suc t)) e, up)
 
 -- at the top, one root: the sum is the ones before the block
-pub climbed-done : (n block : ℕ) (xs : List ℕ) (t count child end sum : ℕ) → Climbed n block xs t count child end sum → t ≡ height n → 0 < n → n ≤ 262144
+pub climbed-done : {n block : ℕ} {xs : List ℕ} {t : ℕ} {c : Climb} {sum : ℕ} → Climbed n block xs t c sum → t ≡ height n → TreeOver n xs
     → (f : ℕ → ℕ) → AllFit f n xs → sum ≡ ones f (512 * block)
-climbed-done n block xs t count child end sum now top lo hi f fit =
-    let one : count ≡ 1 = now .level .counted ∙ ap (nodes n) top ∙ nodes-root n lo hi in
-    let z : child ≡ 0 = omega (arith, now .there) in
+climbed-done {n} {block} {xs} {t} {c} {sum} now top T f fit =
+    let one : c .level .count ≡ 1 = now .climb .level .counted ∙ ap (nodes n) top ∙ nodes-root n T in
+    let z : c .node ≡ 0 = omega (arith, now .climb .there) in
     omega (arith, now .counted f fit, ap (prefix f (suc t)) z, prefix-zero f (suc t))
 
 -- ---- in a block

@@ -1,29 +1,35 @@
 -- What count, find and check give, by what the counters say of a strip. Assumes nothing.
-use mathlib.Core.Path.{_≡_, refl, sym, ap, _∙_}
-use mathlib.Core.List.{List}
-use mathlib.Core.Option.{some, none}
-use Prim.Native.Nat.{ℕ, _*_, _≤_, _<_}
+use mathlib.Core.Path.{_≡_, refl, sym, ap, ap₂, _∙_, subst, subst₂}
+use mathlib.Core.Bool.{Bool, true, false, not}
+use mathlib.Core.List.{List, [], _∷_}
+use mathlib.Core.Option.{Option, none}
+use Prim.Native.Nat.{ℕ, _*_, _^_, _≤_, _<_}
 use native.Mathlib.Omega.{arith}
-use lib.ListN.{length}
-use Rattle.words.specs.Bits.{bitAt, ones}
-use Rattle.words.specs.Strip.{holds, rankOf, selectOf, select}
+use lib.ListN.{length, getD}
+use Rattle.words.specs.Bits.{bitAt, ones, same}
+use Rattle.words.specs.Strip.{orElse, holds, rankOf, selectOf, rank, select}
 use Rattle.words.specs.Working.{ofValue}
 use Rattle.words.specs.Words.{placeIn}
-use Rattle.words.specs.Refusals.{numberOf, judge, verdictOf, value, refused, found}
+use Rattle.words.specs.Refusals.{numberOf, _⇒_, judge, verdictOf, unless, value, refused, found}
+use Rattle.words.specs.Handles.{handle, handleOf}
 use Rattle.words.specs.declared.handle.Handle.{Handle}
 use Rattle.words.specs.declared.refusal.Refusal.{Refusal}
 use Rattle.words.specs.declared.refusal.Verdict.{Verdict}
 use Rattle.words.specs.declared.refusal.Verdict.the-variants.{Refuse}
-use Rattle.words.proofs.Sums.{ones-flat, ones-le, ones-mono}
+use Rattle.words.proofs.Sums.{sum-flat, ones-le, sum-mono}
 use Rattle.words.proofs.WordLaws.{bitAt-le}
-use Rattle.words.proofs.CheckLaws.{not-both, judged-refuse}
+use Rattle.words.proofs.CheckLaws.{judge-append, refused-first, unless-refused}
+use Rattle.words.proofs.BoolLaws.{and-intro, and-first, and-second}
+use Rattle.words.proofs.SameLaws.{same-eq, same-refl}
 use Rattle.words.proofs.SearchLaws.{select-exists, select-place, select-none, select-longer, rank-ones, value-rank, value-le}
-use Rattle.words.proofs.StripLaws.{strip-rank, strip-select}
+use Rattle.words.proofs.StripLaws.{strip-length, strip-rank, strip-select}
 use Rattle.counters.specs.Tree.{blocksOf}
-use Rattle.counters.specs.Record.{Fits, AllFit}
+use Rattle.counters.specs.Record.{Fits, AllFit, packedWords, builtCounters}
+use Rattle.counters.specs.Working.{OnesHeld}
 use Rattle.counters.specs.Promises.{AtMost, Below}
-use Rattle.counters.specs.Calls.{checks, held, rankTable, Ranked, selectTable, Selected, Verified}
-use Rattle.counters.proofs.PromiseLaws.{promise-passed, Sizes}
+use Rattle.counters.specs.Calls.{checks, heldStrip, rankTable, Ranked, selectTable, Selected, fitting, verifyTable, verifyTold}
+use Rattle.counters.proofs.PromiseLaws.{promise-passed, Sizes, sizes}
+use Rattle.counters.proofs.AfreshLaws.{held-bits, built-fits, fits-built}
 
 -- ---- count
 module _ (h : Handle) (ws cs : List ℕ) (v i x : ℕ) (small : v ≤ 1) (within : i ≤ h .length)
@@ -44,7 +50,7 @@ module _ (h : Handle) (ws cs : List ℕ) (v i x : ℕ) (small : v ≤ 1) (within
 -- ---- find
 module _ (h : Handle) (ws cs : List ℕ) (v k x : ℕ) (z : Sizes h ws cs) (small : v ≤ 1)
     (pass : judge (selectTable h (length ws) (length cs) v k) ≡ none)
-    (total : (f : ℕ → ℕ) → AllFit f (blocksOf (h .capacity)) cs → ((p : ℕ) → 512 * blocksOf (h .capacity) ≤ p → f p ≡ 0) → x ≡ ones f (512 * blocksOf (h .capacity)))
+    (total : OnesHeld (blocksOf (h .capacity)) cs x)
   where
     -- the capacity, by its blocks
     whole : 512 * blocksOf (h .capacity) ≡ h .capacity
@@ -54,7 +60,7 @@ module _ (h : Handle) (ws cs : List ℕ) (v k x : ℕ) (z : Sizes h ws cs) (smal
     total-is : Fits h ws cs → x ≡ ones (bitAt ws) (h .length)
     total-is f =
         total (bitAt ws) (f .right) (λ p l. f .clean p (omega (arith, whole, z .long)))
-        ∙ ap (ones (bitAt ws)) whole ∙ ones-flat (bitAt ws) (h .length) (h .capacity) (z .long) (f .clean)
+        ∙ ap (ones (bitAt ws)) whole ∙ sum-flat (bitAt ws) (h .length) (h .capacity) (z .long) (f .clean)
 
     -- and the number of v is count(v, length)
     number-is : Fits h ws cs → ofValue v (h .length) x ≡ rankOf (bitAt ws) v (h .length)
@@ -77,12 +83,12 @@ module _ (h : Handle) (ws cs : List ℕ) (v k x : ℕ) (z : Sizes h ws cs) (smal
         (place : AllFit (bitAt ws) (blocksOf (h .capacity)) cs → k < rankOf (bitAt ws) v (512 * blocksOf (h .capacity))
         → p ≡ placeIn (512 * blocksOf (h .capacity)) (selectOf (bitAt ws) (512 * blocksOf (h .capacity)) v k)) where
       -- on a fitting record it is the stroke's
-      place-is : Fits h ws cs → (found (select (held h ws) v k) ≡ value p) × (p < h .length)
+      place-is : Fits h ws cs → (found (select (heldStrip h ws) v k) ≡ value p) × (p < h .length)
       place-is f =
           let few : k < rankOf (bitAt ws) v (h .length) = omega (arith, number-is f) in
           let w = select-exists (bitAt ws) (h .length) v k few in
           let le : h .length ≤ 512 * blocksOf (h .capacity) = omega (arith, whole, z .long) in
-          let many : k < rankOf (bitAt ws) v (512 * blocksOf (h .capacity)) = omega (arith, ones-mono (holds (bitAt ws) v) le) in
+          let many : k < rankOf (bitAt ws) v (512 * blocksOf (h .capacity)) = omega (arith, sum-mono (holds (bitAt ws) v) le) in
           let e : p ≡ w .0 =
           place (f .right) many
           ∙ ap (placeIn (512 * blocksOf (h .capacity))) (select-longer (bitAt ws) (h .length) (512 * blocksOf (h .capacity)) v k le few ∙ w .1) in
@@ -98,30 +104,55 @@ module _ (h : Handle) (ws cs : List ℕ) (v k x : ℕ) (z : Sizes h ws cs) (smal
           (λ f. absurd (omega (arith, place-is f .1))) Below.unfit
 
 -- ---- check
+-- the test is passed where the record fits
+pub fits-fitting : (h : Handle) (ws cs : List ℕ) → Sizes h ws cs → ((k : ℕ) → getD ws k 0 < 2 ^ 64) → Fits h ws cs → fitting h ws cs ≡ true
+unfolding fitting
+fits-fitting h ws cs z small f =
+    let e = fits-built h ws cs (z .words) (z .counters) small f in
+    and-intro (ap (same ws) (sym (e .0)) ∙ same-refl ws) (ap (same cs) (sym (e .1)) ∙ same-refl cs)
+
+-- and nowhere else
+pub fitting-fits : (h : Handle) (ws cs : List ℕ) → Sizes h ws cs → fitting h ws cs ≡ true → Fits h ws cs
+unfolding fitting
+fitting-fits h ws cs z e =
+    let c : ℕ = h .capacity in
+    let s : List ℕ = heldStrip h ws in
+    let a : Bool = same ws (packedWords c s) in
+    let b : Bool = same cs (builtCounters c s) in
+    let long : length s ≤ c = omega (arith, strip-length ws (h .length), z .long) in
+    let f : Fits (handleOf c s) (packedWords c s) (builtCounters c s) = built-fits c s (z .step) long (held-bits ws (h .length)) in
+    let g : Fits (handle c (h .length)) (packedWords c s) (builtCounters c s) =
+    subst (λ (n : ℕ). Fits (handle c n) (packedWords c s) (builtCounters c s)) (strip-length ws (h .length)) f in
+    let k : Fits (handle c (h .length)) ws cs =
+    subst₂ (λ (vs ds : List ℕ). Fits (handle c (h .length)) vs ds) (sym (same-eq ws (packedWords c s) (and-first a b e)))
+    (sym (same-eq cs (builtCounters c s) (and-second a b e))) g in
+    record { clean = k .clean; right = k .right }
+
+-- the table, where the checks pass, by the test
+verify-judged : (h : Handle) (ws cs : List ℕ) (b : Bool) → judge (checks h (length ws) (length cs)) ≡ none → fitting h ws cs ≡ b
+    → judge (verifyTable h ws cs) ≡ judge ((not b ⇒ 9) ∷ [])
+verify-judged h ws cs b j e =
+    judge-append (checks h (length ws) (length cs)) ((not (fitting h ws cs) ⇒ 9) ∷ [])
+    ∙ ap₂ (λ (o : Option ℕ) (t : Bool). orElse o (judge ((not t ⇒ 9) ∷ []))) j e
+
 pub verify-refused : (h : Handle) (ws cs : List ℕ) (w : Verdict) (r : Refusal) → verdictOf w ≡ judge (checks h (length ws) (length cs)) → w ≡ Refuse r
-    → Verified h ws cs (refused (numberOf r))
+    → refused (numberOf r) ≡ verifyTold h ws cs
 verify-refused h ws cs w r e d =
-    let j : judge (checks h (length ws) (length cs)) ≡ some (numberOf r) = judged-refuse (checks h (length ws) (length cs)) w r e d in
-    record {
-      early = (λ n q. let s : numberOf r ≡ n = cc in ap refused s);
-      fits = (λ q f. not-both j q);
-      unfit = (λ q f. not-both j q);
-    }
+    unless-refused (verifyTable h ws cs) w r refused (value (rank (heldStrip h ws) 1 (h .length)))
+    (refused-first (checks h (length ws) (length cs)) ((not (fitting h ws cs) ⇒ 9) ∷ []) w r e d) d
 
-pub verify-unfit : (h : Handle) (ws cs : List ℕ) → judge (checks h (length ws) (length cs)) ≡ none → (Fits h ws cs → ⊥) → Verified h ws cs (refused 9)
-verify-unfit h ws cs j no-fit =
-    record {
-      early = (λ n q. not-both q j);
-      fits = (λ q f. absurd (no-fit f));
-      unfit = (λ q f. refl);
-    }
+pub verify-unfit : (h : Handle) (ws cs : List ℕ) → judge (checks h (length ws) (length cs)) ≡ none → (Fits h ws cs → ⊥) → refused 9 ≡ verifyTold h ws cs
+verify-unfit h ws cs j no-fit = go (fitting h ws cs) refl
+  where
+    go : (b : Bool) → fitting h ws cs ≡ b → refused 9 ≡ verifyTold h ws cs
+    go true e = absurd (no-fit (fitting-fits h ws cs (sizes h ws cs j) e))
+    go false e = sym (ap (λ (o : Option ℕ). unless o refused (value (rank (heldStrip h ws) 1 (h .length)))) (verify-judged h ws cs false j e))
 
-pub verify-fits : (h : Handle) (ws cs : List ℕ) (x : ℕ) → judge (checks h (length ws) (length cs)) ≡ none → Fits h ws cs → x ≡ ones (bitAt ws) (h .length)
-    → Verified h ws cs (value x)
-verify-fits h ws cs x j f e =
-    record {
-      early = (λ n q. not-both q j);
-      fits = (λ q g.
-          ap value (e ∙ sym (rank-ones (bitAt ws) (h .length) (bitAt-le ws)) ∙ sym (strip-rank ws (h .length) 1 (h .length) (native.Mathlib.Nat.le-refl (h .length)))));
-      unfit = (λ q g. absurd (g f));
-    }
+pub verify-fits : (h : Handle) (ws cs : List ℕ) (x : ℕ) → judge (checks h (length ws) (length cs)) ≡ none → ((k : ℕ) → getD ws k 0 < 2 ^ 64) → Fits h ws cs
+    → x ≡ ones (bitAt ws) (h .length) → value x ≡ verifyTold h ws cs
+verify-fits h ws cs x j small f e =
+    ap value
+    (e ∙ sym (rank-ones (bitAt ws) (h .length) (bitAt-le ws))
+    ∙ sym (strip-rank ws (h .length) 1 (h .length) (native.Mathlib.Nat.le-refl (h .length))))
+    ∙ sym (ap (λ (o : Option ℕ). unless o refused (value (rank (heldStrip h ws) 1 (h .length))))
+    (verify-judged h ws cs true j (fits-fitting h ws cs (sizes h ws cs j) small f)))

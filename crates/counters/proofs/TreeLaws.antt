@@ -3,6 +3,7 @@
 use mathlib.Core.Path.{_≡_, refl, sym, ap, ap₂, _∙_, subst}
 use mathlib.Core.Bool.{Bool, true, false, cond}
 use mathlib.Core.Logic.{_⊎_, inl, inr}
+use mathlib.Core.List.{List}
 use Prim.Native.Nat.{ℕ, zero, suc, _+_, _-_, _*_, _/_, _%_, _^_, _≤_, _<_}
 use native.Mathlib.Nat.{pow-suc, div-div-eq-div-mul, add-mul-div-left, div-one, mul-assoc, mul-comm, mul-zero, le-refl, mul-le-mul-left}
 use native.Mathlib.Numerals.{add-one}
@@ -11,8 +12,10 @@ use lib.Dec.{leb, ltb, lit<, lit≤}
 use borrow.Author.Tests.{le-leb, lt-leb, lt-ltb, le-ltb}
 use Rattle.words.specs.Bits.{ones}
 use Rattle.words.specs.Strip.{least}
-use Rattle.words.specs.Words.{placeIn}
-use Rattle.words.proofs.Sums.{lt-or, ones-zero, ones-suc, ones-split, ones-mono, ones-none}
+use Rattle.words.proofs.Sums.{lt-or, sum-zero, sum-suc, sum-split, sum-mono, sum-none}
+use Rattle.counters.specs.declared.shape.Level.{Level}
+use Rattle.counters.specs.declared.shape.Climb.{Climb}
+use Rattle.counters.specs.Working.{mostBlocks, TreeOver, nodesOver, RoomAbove, Above, Up}
 use Rattle.counters.specs.Tree.{nodes, height, childBits, childOnes, childrenOnes, summary, key, counter, fromChild, toChild, total, counterCount, indexOf, childOf}
 
 -- ---- powers of 64
@@ -26,7 +29,7 @@ unfolding nodes
 nodes-zero n = div-one (n + 0) ∙ omega arith
 
 -- a level has the nodes of the one below divided by 64, rounded up
-pub nodes-suc : (n t : ℕ) → nodes n (suc t) ≡ (nodes n t + 63) / 64
+pub nodes-suc : (n t : ℕ) → nodes n (suc t) ≡ nodesOver (nodes n t)
 unfolding nodes
 nodes-suc n t =
     let m : ℕ = 64 ^ t in
@@ -38,7 +41,7 @@ nodes-suc n t =
     ∙ ap (λ (x : ℕ). x / 64) (add-mul-div-left (n + (m - 1)) 63 p)
 
 -- as the code writes it
-pub nodes-more : (n t : ℕ) → nodes n (t + 1) ≡ (nodes n t + 63) / 64
+pub nodes-more : (n t : ℕ) → nodes n (t + 1) ≡ nodesOver (nodes n t)
 nodes-more n t = ap (nodes n) (add-one t) ∙ nodes-suc n t
 
 -- no more nodes than blocks, and at least one over a block
@@ -52,19 +55,8 @@ nodes-pos n (suc t) h = omega (arith, nodes-suc n t, nodes-pos n t h)
 
 -- ---- the height
 pub height-is : (n : ℕ) → height n ≡ cond (leb n 64) 1 (cond (leb n 4096) 2 3)
-unfolding height least
-height-is n = go (leb n 64) (leb n 4096) (leb n 262144)
-  where
-    go : (a b c : Bool)
-        → placeIn 3
-        (Rattle.words.specs.Strip.orElse
-        (Rattle.words.specs.Strip.orElse (cond a (mathlib.Core.Option.some 1) mathlib.Core.Option.none) (cond b (mathlib.Core.Option.some 2) mathlib.Core.Option.none))
-        (cond c (mathlib.Core.Option.some 3) mathlib.Core.Option.none))
-        ≡ cond a 1 (cond b 2 3)
-    go true b c = refl
-    go false true c = refl
-    go false false true = refl
-    go false false false = refl
+unfolding height
+height-is n = refl
 
 -- the height by the number of blocks
 pub height-one : (n : ℕ) → n ≤ 64 → height n ≡ 1
@@ -92,7 +84,7 @@ pub height-le : (n : ℕ) → height n ≤ 3
 height-le n = by-height (λ h. h ≤ 3) n (λ l. lit≤ tt) (λ l m. lit≤ tt) (λ l. lit≤ tt)
 
 -- 64^h is at least the number of blocks
-pub height-enough : (n : ℕ) → n ≤ 262144 → n ≤ 64 ^ height n
+pub height-enough : (n : ℕ) → n ≤ mostBlocks → n ≤ 64 ^ height n
 height-enough n h = by-height (λ k. n ≤ 64 ^ k) n (λ l. l) (λ l m. m) (λ l. h)
 
 -- and h is the least of 1, 2, 3 for which it is
@@ -117,28 +109,29 @@ height-least n k h l = by-height (λ t. t ≤ k) n (λ a. h) two three
         go (suc (suc (suc m))) p q = omega arith
 
 -- the top level is the root alone
-pub nodes-root : (n : ℕ) → 0 < n → n ≤ 262144 → nodes n (height n) ≡ 1
-nodes-root n p h =
+pub nodes-root : (n : ℕ) {xs : List ℕ} → TreeOver n xs → nodes n (height n) ≡ 1
+nodes-root n T =
     let one = nodes-suc n 0 in
     let two = nodes-suc n 1 in
     let three = nodes-suc n 2 in
-    by-height (λ k. nodes n k ≡ 1) n (λ l. omega (arith, one, nodes-zero n)) (λ l m. omega (arith, two, one, nodes-zero n)) (λ l. omega (arith, three, two, one, nodes-zero n))
+    by-height (λ k. nodes n k ≡ 1) n (λ l. omega (arith, one, nodes-zero n, T .some)) (λ l m. omega (arith, two, one, nodes-zero n, T .some))
+    (λ l. omega (arith, three, two, one, nodes-zero n, T .some, T .few))
 
 -- ---- the nodes of the levels 1 to t
 pub total-zero : (n : ℕ) → total n 0 ≡ 0
 unfolding total
-total-zero n = ones-zero (λ s. nodes n (s + 1))
+total-zero n = sum-zero (λ s. nodes n (s + 1))
 
 pub total-suc : (n t : ℕ) → total n (suc t) ≡ total n t + nodes n (suc t)
 unfolding total
-total-suc n t = ones-suc (λ s. nodes n (s + 1)) t ∙ ap (λ (k : ℕ). ones (λ s. nodes n (s + 1)) t + nodes n k) (add-one t)
+total-suc n t = sum-suc (λ s. nodes n (s + 1)) t ∙ ap (λ (k : ℕ). ones (λ s. nodes n (s + 1)) t + nodes n k) (add-one t)
 
 pub total-more : (n t : ℕ) → total n (t + 1) ≡ total n t + nodes n (t + 1)
 total-more n t = ap (total n) (add-one t) ∙ total-suc n t ∙ ap (λ (k : ℕ). total n t + nodes n k) (sym (add-one t))
 
 pub total-mono : (n : ℕ) {a b : ℕ} → a ≤ b → total n a ≤ total n b
 unfolding total
-total-mono n h = ones-mono (λ s. nodes n (s + 1)) h
+total-mono n h = sum-mono (λ s. nodes n (s + 1)) h
 
 -- ---- the bits of a child
 pub childBits-one : childBits 1 ≡ 512
@@ -180,10 +173,10 @@ unfolding childOnes
 child-absent f n t m past h =
     let b : ℕ = childBits (suc t) in
     let l : 512 * n ≤ b * m = omega (arith, nodes-cover n t, mul-le-mul-left b h) in
-    ones-none (λ p. f (b * m + p)) b (λ p q. past (b * m + p) (omega arith))
+    sum-none (λ p. f (b * m + p)) b (λ p q. past (b * m + p) (omega arith))
 
 -- the root covers every block
-pub root-covers : (n : ℕ) → n ≤ 262144 → 512 * n ≤ childBits (suc (height n))
+pub root-covers : (n : ℕ) → n ≤ mostBlocks → 512 * n ≤ childBits (suc (height n))
 unfolding childBits
 root-covers n h =
     let e : suc (height n) - 1 ≡ height n = omega arith in
@@ -194,7 +187,7 @@ abbrev pub prefix : (ℕ → ℕ) → ℕ → ℕ → ℕ
 prefix f t m = ones f (childBits t * m)
 
 pub prefix-zero : (f : ℕ → ℕ) (t : ℕ) → prefix f t 0 ≡ 0
-prefix-zero f t = ap (ones f) (mul-zero (childBits t)) ∙ ones-zero f
+prefix-zero f t = ap (ones f) (mul-zero (childBits t)) ∙ sum-zero f
 
 -- one level up, a child is 64 of those below
 pub prefix-up : (f : ℕ → ℕ) (t m : ℕ) → prefix f (suc (suc t)) m ≡ prefix f (suc t) (64 * m)
@@ -202,19 +195,19 @@ prefix-up f t m =
     ap (λ (b : ℕ). ones f (b * m)) (childBits-suc t ∙ mul-comm 64 (childBits (suc t))) ∙ ap (ones f) (mul-assoc (childBits (suc t)) 64 m)
 
 pub prefix-mono : (f : ℕ → ℕ) (t : ℕ) (a b : ℕ) → a ≤ b → prefix f t a ≤ prefix f t b
-prefix-mono f t a b h = ones-mono f (mul-le-mul-left (childBits t) h)
+prefix-mono f t a b h = sum-mono f (mul-le-mul-left (childBits t) h)
 
 -- one more child
 pub prefix-suc : (f : ℕ → ℕ) (t m : ℕ) → prefix f t (suc m) ≡ prefix f t m + childOnes f t m
 unfolding childOnes
 prefix-suc f t m =
-    ap (ones f) (native.Mathlib.Nat.mul-suc (childBits t) m) ∙ ones-split f (childBits t * m) (childBits t)
+    ap (ones f) (native.Mathlib.Nat.mul-suc (childBits t) m) ∙ sum-split f (childBits t * m) (childBits t)
 
 -- k children from a on
 pub children-ones : (f : ℕ → ℕ) (t a k : ℕ) → ones (λ m. childOnes f t (a + m)) k + prefix f t a ≡ prefix f t (a + k)
-children-ones f t a zero = omega (arith, ones-zero (λ m. childOnes f t (a + m)), ap (prefix f t) (native.Mathlib.Nat.add-zero a))
+children-ones f t a zero = omega (arith, sum-zero (λ m. childOnes f t (a + m)), ap (prefix f t) (native.Mathlib.Nat.add-zero a))
 children-ones f t a (suc k) =
-    omega (arith, ones-suc (λ m. childOnes f t (a + m)) k, children-ones f t a k, prefix-suc f t (a + k), ap (prefix f t) (native.Mathlib.Nat.add-suc a k))
+    omega (arith, sum-suc (λ m. childOnes f t (a + m)) k, children-ones f t a k, prefix-suc f t (a + k), ap (prefix f t) (native.Mathlib.Nat.add-suc a k))
 
 -- ---- the children that a counter counts
 pub from-summary : (i : ℕ) → i < 8 → fromChild i ≡ 0
@@ -283,27 +276,61 @@ start-next n t h = omega (arith, total-suc n t, total-mono n h)
 pub start-zero : (n : ℕ) → start n 0 ≡ counterCount n
 start-zero n = omega (arith, total-zero n)
 
--- level t has `count` nodes, and its counters start at `from`; the blocks are level 0
-pub record Level (n t count from : ℕ) : Type 0 where
-  pub counted : count ≡ nodes n t
-  pub starts : from ≡ start n t
+-- l is level t; the blocks are level 0
+pub record LevelAt (n t : ℕ) (l : Level) : Type 0 where
+  pub counted : l .count ≡ nodes n t
+  pub starts : l .start ≡ start n t
 
 -- the blocks end where the counters do
-pub level-blocks : (n size : ℕ) → size ≡ counterCount n → Level n 0 n size
-level-blocks n size e = record { counted = sym (nodes-zero n); starts = e ∙ sym (start-zero n) }
+pub level-blocks : (n : ℕ) (l : Level) → l .count ≡ n → l .start ≡ counterCount n → LevelAt n 0 l
+level-blocks n l e f = record { counted = e ∙ sym (nodes-zero n); starts = f ∙ sym (start-zero n) }
 
--- the next level, as the code has it, ends where this one starts
-pub level-ends : {n t count from : ℕ} → Level n t count from → t < height n → start n (t + 1) + 72 * ((count + 63) / 64) ≡ from
-level-ends {n} {t} L l = omega (arith, L .counted, L .starts, nodes-suc n t, start-next n t l, ap (start n) (add-one t))
+-- no more nodes than blocks
+pub level-few : {n t : ℕ} {l : Level} {xs : List ℕ} → LevelAt n t l → TreeOver n xs → l .count ≤ mostBlocks
+level-few {n} {t} L T = omega (arith, L .counted, nodes-le n t (T .some), T .few)
 
--- its nodes and its start
-pub level-next : {n t count from : ℕ} → Level n t count from → t < height n → Level n (t + 1) ((count + 63) / 64) (from - 72 * ((count + 63) / 64))
-level-next {n} {t} L l =
-    record { counted = ap (λ (m : ℕ). (m + 63) / 64) (L .counted) ∙ sym (nodes-more n t); starts = omega (arith, level-ends L l) }
+-- below the root there is a level above
+module _ {n t : ℕ} {l : Level} (L : LevelAt n t l) (lower : t < height n) where
+  -- it ends where this one starts
+  level-ends : start n (t + 1) + 72 * nodesOver (l .count) ≡ l .start
+  level-ends = omega (arith, L .counted, L .starts, nodes-suc n t, start-next n t lower, ap (start n) (add-one t))
 
--- there is room for it before this one
-pub level-room : {n t count from : ℕ} → Level n t count from → t < height n → (72 * ((count + 63) / 64) ≤ from) × (from ≤ counterCount n)
-level-room L l = omega (arith, level-ends L l, L .starts)
+  -- there is room for it before this one
+  pub level-room : (72 * nodesOver (l .count) ≤ l .start) × (l .start ≤ counterCount n)
+  level-room = omega (arith, level-ends, L .starts)
+
+  -- its nodes and its start
+  pub level-next : {r : Level} → Above l r → LevelAt n (t + 1) r
+  level-next A =
+      record {
+        counted = A .counted ∙ ap (λ (m : ℕ). nodesOver m) (L .counted) ∙ sym (nodes-more n t);
+        starts = omega (arith, level-ends, A .counted, A .ends);
+      }
+
+-- c stands at a node of level t
+pub record ClimbAt (n t : ℕ) (c : Climb) : Type 0 where
+  pub level : LevelAt n t (c .level)
+  pub there : c .node < c .level .count
+
+-- at a block
+pub climb-block : (n end block : ℕ) (c : Climb) → end ≡ counterCount n → block < n → (c .level .count ≡ n) × (c .level .start ≡ end) × (c .node ≡ block)
+    → ClimbAt n 0 c
+climb-block n end block c e l f = record { level = level-blocks n (c .level) (f .0) (f .1 ∙ e); there = omega (arith, f) }
+
+-- and goes on, below the root
+module _ {n t : ℕ} {c : Climb} (C : ClimbAt n t c) (lower : t < height n) where
+  -- one level up
+  pub climb-ready : {xs : List ℕ} → TreeOver n xs → RoomAbove (c .level) × (c .node < c .level .count)
+  climb-ready T = ((level-few (C .level) T, level-room (C .level) lower .0), C .there)
+
+  module _ {r : Climb} (U : Up c r) where
+    -- to a node of that level
+    pub climb-up : ClimbAt n (t + 1) r
+    climb-up = record { level = level-next (C .level) lower (U .level); there = omega (arith, C .there, U .node-is, U .level .counted) }
+
+    -- whose counters are there
+    pub climb-room : r .at + 72 ≤ counterCount n
+    climb-room = omega (arith, climb-up .there, U .at-is, U .level .ends, level-room (C .level) lower .1)
 
 -- within the counters
 pub index-lt : (n t j i : ℕ) → 1 ≤ t → t ≤ height n → j < nodes n t → i < 72 → indexOf n t j i < counterCount n
@@ -311,9 +338,9 @@ index-lt n zero j i a b c d = absurd (omega arith)
 index-lt n (suc t) j i a b c d = omega (arith, index-is n (suc t) j i, start-next n t b)
 
 -- the root is there
-pub root-there : (n : ℕ) → 0 < n → n ≤ 262144 → 72 ≤ counterCount n
-root-there n pos most =
-    let j : 0 < nodes n (height n) = omega (arith, nodes-root n pos most) in
+pub root-there : (n : ℕ) {xs : List ℕ} → TreeOver n xs → 72 ≤ counterCount n
+root-there n T =
+    let j : 0 < nodes n (height n) = omega (arith, nodes-root n T) in
     omega (arith, index-lt n (height n) 0 71 (height-pos n) (le-refl (height n)) j (lit< tt), index-is n (height n) 0 71)
 
 -- a level above stands before

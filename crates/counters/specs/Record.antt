@@ -5,9 +5,15 @@ use mathlib.Core.List.{List}
 use lib.ListN.{getD}
 use Rattle.words.specs.Bits.{bitAt, digits, listOf}
 use Rattle.words.specs.Strip.{cell, PastZero}
-use Rattle.words.specs.Handles.{wordsOf}
+use Rattle.words.specs.Handles.{wordsOf, handleOf}
 use Rattle.words.specs.declared.handle.Handle.{Handle}
 use Rattle.counters.specs.Tree.{blocksOf, nodes, height, counter, indexOf, levels}
+
+-- a handle with its words and counters
+pub record StripRecord : Type 0 where
+  pub handle : Handle
+  pub words : List ℕ
+  pub counters : List ℕ
 
 -- every counter of n blocks is as defined for the bits f
 abbrev pub AllFit : (ℕ → ℕ) → ℕ → List ℕ → Type 0
@@ -25,3 +31,7 @@ packedWords c s = listOf (λ k. digits 2 (λ j. cell s (64 * k + j)) 64) (wordsO
 -- and every counter as defined for them
 unfoldable pub builtCounters : ℕ → List ℕ → List ℕ
 builtCounters c s = levels (cell s) (blocksOf c) (height (blocksOf c))
+
+-- the record laid afresh from a strip s of capacity c
+abbrev pub builtRecord : ℕ → List ℕ → StripRecord
+builtRecord c s = record { handle = handleOf c s; words = packedWords c s; counters = builtCounters c s }

@@ -5,9 +5,7 @@ use mathlib.Core.Bool.{Bool, cond, _&&_}
 use mathlib.Core.List.{List, [], _++_}
 use lib.Dec.{leb, ltb, eqb}
 use lib.ListN.{getD}
-use Rattle.words.specs.Bits.{ones, listOf}
-use Rattle.words.specs.Strip.{least}
-use Rattle.words.specs.Words.{placeIn}
+use Rattle.words.specs.Bits.{sumTo, ones, listOf}
 use Rattle.words.specs.Handles.{blockBits}
 
 -- the number of blocks of a capacity
@@ -18,10 +16,9 @@ blocksOf c = c / blockBits
 unfoldable pub nodes : ℕ → ℕ → ℕ
 nodes n t = (n + (64 ^ t - 1)) / 64 ^ t
 
--- the height: the least of 1, 2, 3 with 64^h at least the number of blocks
+-- the height: the least of 1, 2, 3 with 64^h at least the number of blocks, which is at most 64^3
 unfoldable pub height : ℕ → ℕ
-unfolding least
-height n = placeIn 3 (least (λ h. leb 1 h && leb n (64 ^ h)) 4)
+height n = cond (leb n (64 ^ 1)) 1 (cond (leb n (64 ^ 2)) 2 3)
 
 -- the bits of a child at level t: a block at level 1, at level t + 1 a node of level t
 unfoldable pub childBits : ℕ → ℕ
@@ -33,7 +30,7 @@ childOnes f t m = ones (λ p. f (childBits t * m + p)) (childBits t)
 
 -- the ones in the children from a up to, not including, b of node j of level t
 abbrev pub childrenOnes : (ℕ → ℕ) → ℕ → ℕ → ℕ → ℕ → ℕ
-childrenOnes f t j a b = ones (λ m. childOnes f t (64 * j + a + m)) (b - a)
+childrenOnes f t j a b = sumTo (λ m. childOnes f t (64 * j + a + m)) (b - a)
 
 -- A node has 64 children and 72 counters: 8 summaries, then 64 keys.
 -- summary g of a node: the ones in the first 8 times g children
@@ -57,7 +54,7 @@ toChild i = cond (ltb i 8) (8 * i) (i - 8 + 1)
 
 -- the nodes of the levels 1 to t
 unfoldable pub total : ℕ → ℕ → ℕ
-total n t = ones (λ s. nodes n (s + 1)) t
+total n t = sumTo (λ s. nodes n (s + 1)) t
 
 -- the number of counters: the node total times 72
 abbrev pub counterCount : ℕ → ℕ
@@ -81,7 +78,7 @@ counts t j i p = leb (64 * j + fromChild i) (childOf t p) && ltb (childOf t p) (
 
 -- the number of counters that turning stroke p changes: 15 − (c mod 8) − (c div 8), added over levels 1 to h
 unfoldable pub changeCount : ℕ → ℕ → ℕ
-changeCount n p = ones (λ s. 15 - slot (s + 1) p % 8 - slot (s + 1) p / 8) (height n)
+changeCount n p = sumTo (λ s. 15 - slot (s + 1) p % 8 - slot (s + 1) p / 8) (height n)
 
 -- the counters of the levels t to 1, as defined for f: the higher level first
 unfoldable pub levels : (ℕ → ℕ) → ℕ → ℕ → List ℕ
@@ -90,4 +87,4 @@ levels f n (suc t) = listOf (λ y. counter f (suc t) (y / 72) (y % 72)) (72 * no
 
 -- how many of the first n numbers of two lists differ
 abbrev pub differ : List ℕ → List ℕ → ℕ → ℕ
-differ xs ys n = ones (λ x. cond (eqb (getD xs x 0) (getD ys x 0)) 0 1) n
+differ xs ys n = sumTo (λ x. cond (eqb (getD xs x 0) (getD ys x 0)) 0 1) n

@@ -14,7 +14,7 @@ use super::check::check_flip;
 use super::check::check_push;
 use super::check::check_record;
 use super::check::check_truncate;
-use super::raise::raise_path;
+use super::path::move_path;
 use words::fill::flip_position;
 use words::fill::put_position;
 use words::fill::put_positions;
@@ -63,7 +63,7 @@ pub fn push(h: Handle, words: &mut [u64], counters: &mut [u32], v: u64) -> Chang
             if v == 0 {
                 return Changed::Done(next, p as u64, 0);
             }
-            let number = raise_path(counters, capacity / BLOCK_BITS, p, 1);
+            let number = move_path(counters, capacity / BLOCK_BITS, p, 1);
             Changed::Done(next, p as u64, number as u64)
         }
     }
@@ -85,7 +85,7 @@ pub fn flip(h: Handle, words: &mut [u64], counters: &mut [u32], i: usize) -> Cha
         Verdict::Pass => {
             let capacity = h.capacity;
             let b = flip_position(words, i);
-            let number = raise_path(counters, capacity / BLOCK_BITS, i, step_to(b));
+            let number = move_path(counters, capacity / BLOCK_BITS, i, step_to(b));
             Changed::Done(h, b, number as u64)
         }
     }

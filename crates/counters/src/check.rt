@@ -10,7 +10,7 @@ use words::refusal::Verdict;
 use words::strip::check_below;
 use words::strip::check_value;
 
-// 1, 2, 3, where as many words and counters are lent.
+// 1, 2, 3; `words` and `counters` are the numbers of words and counters lent.
 pub fn check_record(h: Handle, words: usize, counters: usize) -> Verdict
     ensures { λ r. ⌜ verdictOf r ≡ judge (checks h words counters) ⌝ }
 {

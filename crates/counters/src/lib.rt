@@ -3,7 +3,7 @@ pub mod answer;
 pub mod build;
 pub mod change;
 pub mod check;
-pub mod raise;
+pub mod path;
 pub mod rank;
 pub mod read;
 pub mod select;

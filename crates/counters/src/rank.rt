@@ -3,12 +3,12 @@ ghost use mathlib.Core.Path.{_≡_};
 ghost use Prim.Native.Nat.{ℕ, _+_, _*_, _<_, _≤_};
 ghost use lib.ListN.{length};
 ghost use Rattle.words.specs.Bits.{bitAt, ones};
-ghost use Rattle.counters.specs.Tree.{counterCount};
 ghost use Rattle.counters.specs.Record.{AllFit};
-ghost use Rattle.counters.specs.Working.{Node};
-use super::shape::CHILDREN;
+ghost use Rattle.counters.specs.Working.{TreeOver, mostPair, Node};
 use super::shape::NODE_COUNTERS;
+use super::shape::from_block;
 use super::shape::height_of;
+use super::shape::up;
 use super::shape::wide;
 use words::block::block_rank;
 use words::handle::BLOCK_BITS;
@@ -16,7 +16,7 @@ use words::handle::BLOCK_BITS;
 // The ones in the first c children of a node: the summary of c's group, and the key before c unless c starts the group.
 fn before_child(node: &[u32], c: usize) -> usize
     requires { ⌜ (length (now node) ≡ 72) × (c < 64) ⌝ }
-    ensures { λ r. ⌜ (r ≤ 8589934590) × ((B : ℕ → ℕ) (j : ℕ) → Node B j (now (node .entry)) → r + B (64 * j) ≡ B (64 * j + c)) ⌝ }
+    ensures { λ r. ⌜ (r ≤ mostPair) × ((B : ℕ → ℕ) (j : ℕ) → Node B j (now (node .entry)) → r + B (64 * j) ≡ B (64 * j + c)) ⌝ }
 {
     let g = c / 8;
     let s = wide(node[g]);
@@ -26,30 +26,26 @@ fn before_child(node: &[u32], c: usize) -> usize
 
 // The ones in the blocks before a block, by the counters: level by level from the lowest.
 fn ones_before_block(counters: &[u32], blocks: usize, block: usize) -> usize
-    requires { ⌜ (length (now counters) ≡ counterCount blocks) × (0 < blocks) × (blocks ≤ 262144) × (block < blocks) ⌝ }
-    ensures { λ r. ⌜ (r ≤ 25769803770) × ((f : ℕ → ℕ) → AllFit f blocks (now (counters .entry)) → r ≡ ones f (512 * block)) ⌝ }
+    requires { ⌜ TreeOver blocks (now counters) × (block < blocks) ⌝ }
+    ensures { λ r. ⌜ (r ≤ 3 * mostPair) × ((f : ℕ → ℕ) → AllFit f blocks (now (counters .entry)) → r ≡ ones f (512 * block)) ⌝ }
 {
     let levels = height_of(blocks);
-    let mut count = blocks;
-    let mut child = block;
-    let mut end = counters.len();
+    let mut climb = from_block(blocks, counters.len(), block);
     let mut sum: usize = 0;
     for t in 0..levels {
-        count = (count + (CHILDREN - 1)) / CHILDREN;
-        end -= NODE_COUNTERS * count;
-        let c = child % CHILDREN;
-        child = child / CHILDREN;
-        let a = end + NODE_COUNTERS * child;
+        climb = up(climb);
+        let a = climb.at;
         let e = a + NODE_COUNTERS;
-        sum += before_child(&counters[a..e], c);
+        sum += before_child(&counters[a..e], climb.slot);
     }
     sum
 }
 
 // The ones before position i, which is at most the capacity: those before the block of position i - 1, and those in it.
 pub fn ones_before(words: &[u64], counters: &[u32], blocks: usize, i: usize) -> usize
-    requires { ⌜ (length (now words) ≡ 8 * blocks) × (length (now counters) ≡ counterCount blocks) × (0 < blocks) × (blocks ≤ 262144) × (i ≤ 512 * blocks) ⌝ }
-    ensures { λ r. ⌜ (r ≤ 25769804282) × (AllFit (bitAt (now (words .entry))) blocks (now (counters .entry)) → r ≡ ones (bitAt (now (words .entry))) i) ⌝ }
+    requires { ⌜ (length (now words) ≡ 8 * blocks) × TreeOver blocks (now counters) × (i ≤ 512 * blocks) ⌝ }
+    ensures { λ r. ⌜ (r ≤ 3 * mostPair + 512)
+        × (AllFit (bitAt (now (words .entry))) blocks (now (counters .entry)) → r ≡ ones (bitAt (now (words .entry))) i) ⌝ }
 {
     if i == 0 {
         return 0;

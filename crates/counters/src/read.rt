@@ -1,6 +1,7 @@
 // The calls that read a record: count, find and check. They write nothing.
+ghost use mathlib.Core.Path.{_≡_};
 ghost use Rattle.words.specs.Refusals.{toldOf};
-ghost use Rattle.counters.specs.Calls.{Ranked, Selected, Verified};
+ghost use Rattle.counters.specs.Calls.{Ranked, Selected, verifyTold};
 use super::check::check_rank;
 use super::check::check_record;
 use super::check::check_select;
@@ -62,7 +63,7 @@ pub fn select(h: Handle, words: &[u64], counters: &[u32], v: u64, k: usize) -> A
 
 // check: the ones held, or 9 where the record does not fit.
 pub fn verify(h: Handle, words: &[u64], counters: &[u32]) -> Answer
-    ensures { λ r. ⌜ Verified h (now (words .entry)) (now (counters .entry)) (toldOf r) ⌝ }
+    ensures { λ r. ⌜ toldOf r ≡ verifyTold h (now (words .entry)) (now (counters .entry)) ⌝ }
 {
     match check_record(h, words.len(), counters.len()) {
         Verdict::Refuse(r) => Answer::Refused(r),

@@ -17,8 +17,8 @@ use Rattle.words.specs.Refusals.{numberOf, judge, unless, value, refused, toldO
 use Rattle.words.proofs.BoolLaws.{and-first, and-second, not-not}
 use Rattle.words.proofs.CheckLaws.{passes}
 use Rattle.image.specs.Bytes.{num}
-use Rattle.image.specs.Layout.{unitBytes, kind, mostBytes, mostLabel, mostRow}
-use Rattle.image.specs.Chain.{nextAt, labelAt, lengthAt, endAt, goodLabel, goodSize, soundHeader, soundRecord, among, inFront, chainFrom, chainOf, placeOf, endOf, linkOf}
+use Rattle.image.specs.Layout.{unitBytes, headBytes, kind, mostBytes, mostLabel, mostRow}
+use Rattle.image.specs.Chain.{nextAt, labelAt, lengthAt, endAt, goodLabel, goodFields, goodSize, soundHeader, soundRecord, among, inFront, chainFrom, chainOf, placeOf, chainEnd, linkOf}
 use Rattle.image.specs.Rows.{partAt}
 use Rattle.image.specs.Calls.{isSome, recordsIn, recordsOf, recordWith, rowPlace, rowPart, openTable, openTold, openPart}
 
@@ -30,9 +30,9 @@ decides true false a b c d = sym (d (a refl))
 decides false true a b c d = b (c refl)
 decides false false a b c d = refl
 
--- a test is not both
-pub false-true : {A : Type 0} {t : Bool} → t ≡ false → t ≡ true → A
-false-true p q = absurd (false≢true (sym p ∙ q))
+-- values of two constructors are not one
+pub no-confusion : {A : Type 0} → _≡_ {A = ℕ} 0 1 → A
+no-confusion z = absurd (omega arith)
 
 -- a size is good from 16 to 2^32 bytes
 pub size-good : (n : ℕ) → unitBytes ≤ n → n ≤ mostBytes → goodSize n ≡ true
@@ -47,6 +47,15 @@ label-good n p q = simp (le-leb 1 n p, le-leb n mostLabel q)
 
 pub label-facts : (n : ℕ) → goodLabel n ≡ true → (1 ≤ n) × (n ≤ mostLabel)
 label-facts n h = (leb-true _ _ (and-first (leb 1 n) (leb n mostLabel) h), leb-true _ _ (and-second (leb 1 n) (leb n mostLabel) h))
+
+-- the fields of a record are good where the label and the length are in range
+pub fields-good : (s : List ℕ) (a : ℕ) → 1 ≤ labelAt s a → labelAt s a ≤ mostLabel → lengthAt s a ≤ mostRow → goodFields s a ≡ true
+fields-good s a p q r = simp (label-good (labelAt s a) p q, le-leb (lengthAt s a) mostRow r)
+
+pub fields-facts : (s : List ℕ) (a : ℕ) → goodFields s a ≡ true → (1 ≤ labelAt s a) × (labelAt s a ≤ mostLabel) × (lengthAt s a ≤ mostRow)
+fields-facts s a h =
+    let l = label-facts (labelAt s a) (and-first (goodLabel (labelAt s a)) _ h) in
+    (l .0, l .1, leb-true _ _ (and-second (goodLabel (labelAt s a)) (leb (lengthAt s a) mostRow) h))
 
 -- what a sound header is known for
 pub record HeaderFacts (s : List ℕ) : Type 0 where
@@ -75,7 +84,7 @@ header-sound s f = simp (size-good (length s) (f .least) (f .most), eq-eqb _ _ (
 
 -- what a sound record is known for
 pub record RecordFacts (s : List ℕ) (a : ℕ) : Type 0 where
-  pub room : a + 16 ≤ length s
+  pub room : a + headBytes ≤ length s
   pub low : 1 ≤ labelAt s a
   pub high : labelAt s a ≤ mostLabel
   pub short : lengthAt s a ≤ mostRow
@@ -91,24 +100,23 @@ or-second false y h i = i
 pub record-facts : (s : List ℕ) (a : ℕ) → soundRecord s a ≡ true → RecordFacts s a
 unfolding soundRecord
 record-facts s a h =
-    let h1 = and-second (leb (a + 16) (length s)) _ h in
-    let h2 = and-second (goodLabel (labelAt s a)) _ h1 in
-    let h3 = and-second (leb (lengthAt s a) mostRow) _ h2 in
-    let l = label-facts (labelAt s a) (and-first (goodLabel (labelAt s a)) _ h1) in
+    let h1 = and-second (leb (a + headBytes) (length s)) _ h in
+    let h2 = and-second (goodFields s a) _ h1 in
+    let f = fields-facts s a (and-first (goodFields s a) _ h1) in
     record {
-      room = leb-true _ _ (and-first (leb (a + 16) (length s)) _ h);
-      low = l .0;
-      high = l .1;
-      short = leb-true _ _ (and-first (leb (lengthAt s a) mostRow) _ h2);
-      inside = leb-true _ _ (and-first (leb (endAt s a) (length s)) _ h3);
-      ahead = λ n. leb-true _ _ (or-second (eqb (nextAt s a) 0) _ (ne-eqb _ _ n) (and-second (leb (endAt s a) (length s)) _ h3));
+      room = leb-true _ _ (and-first (leb (a + headBytes) (length s)) _ h);
+      low = f .0;
+      high = f .1;
+      short = f .2;
+      inside = leb-true _ _ (and-first (leb (endAt s a) (length s)) _ h2);
+      ahead = λ n. leb-true _ _ (or-second (eqb (nextAt s a) 0) _ (ne-eqb _ _ n) (and-second (leb (endAt s a) (length s)) _ h2));
     }
 
 -- and the facts make it sound
 pub record-sound : (s : List ℕ) (a : ℕ) → RecordFacts s a → soundRecord s a ≡ true
 unfolding soundRecord
 record-sound s a f =
-    simp (le-leb _ _ (f .room), label-good (labelAt s a) (f .low) (f .high), le-leb _ _ (f .short), le-leb _ _ (f .inside)) (go (eqb (nextAt s a) 0) refl)
+    simp (le-leb _ _ (f .room), fields-good s a (f .low) (f .high) (f .short), le-leb _ _ (f .inside)) (go (eqb (nextAt s a) 0) refl)
   where
     go : (t : Bool) → eqb (nextAt s a) 0 ≡ t → (t || leb (endAt s a) (unitBytes * nextAt s a)) ≡ true
     go true p = refl
@@ -189,12 +197,12 @@ pub data Links (s : List ℕ) : ℕ → List ℕ → List ℕ → Type 0 where
 
 -- what a record in front leaves
 front-some : (a : ℕ) (o : Option (List ℕ)) (rs : List ℕ) → inFront a o ≡ some rs → (bs : List ℕ) × (o ≡ some bs) × (rs ≡ a ∷ bs)
-front-some a none rs e = let z : _≡_ {A = ℕ} 0 1 = cc in absurd (omega arith)
+front-some a none rs e = no-confusion cc
 front-some a (some bs) rs e = (bs, refl, cc)
 
 -- nothing is not something
 pub none-some : {B : Type 0} {A : Type 0} {o : Option A} {x : A} → o ≡ none → o ≡ some x → B
-none-some p q = let z : _≡_ {A = ℕ} 0 1 = cc in absurd (omega arith)
+none-some p q = no-confusion cc
 
 -- at byte 0 the chain has ended
 at-end : (steps : ℕ) (s : List ℕ) (a : ℕ) (met rs : List ℕ) → restFrom steps s a met ≡ some rs → ((a ≡ 0 → ⊥) → Links s a met rs) → Links s a met rs
@@ -208,7 +216,7 @@ at-end steps s a met rs e go-on = go (eqb a 0) refl
     go false p = go-on (eqb-false _ _ p)
 
 -- a walk that ends does not stop
-not-stopped : (steps : ℕ) (s : List ℕ) (a : ℕ) (met rs : List ℕ) → restFrom steps s a met ≡ some rs → (a ≡ 0 → ⊥)
+pub not-stopped : (steps : ℕ) (s : List ℕ) (a : ℕ) (met rs : List ℕ) → restFrom steps s a met ≡ some rs → (a ≡ 0 → ⊥)
     → (soundRecord s a ≡ true) × (among (labelAt s a) met ≡ false)
 not-stopped steps s a met rs e n = go (soundRecord s a) (among (labelAt s a) met) refl refl
   where
@@ -250,11 +258,11 @@ links-chain s rs h l = chain-rest s (header-sound s h) ∙ links-rest (length s)
 -- a record of a chain: sound, at a unit, past the header
 pub record Placed (s : List ℕ) (a : ℕ) : Type 0 where
   pub facts : RecordFacts s a
-  pub unit : a % 16 ≡ 0
-  pub past : 16 ≤ a
+  pub unit : a % unitBytes ≡ 0
+  pub past : unitBytes ≤ a
 
 -- each record
-links-each : {s : List ℕ} {a : ℕ} {met rs : List ℕ} → Links s a met rs → a % 16 ≡ 0 → (i : ℕ) → i < length rs → Placed s (getD rs i 0)
+links-each : {s : List ℕ} {a : ℕ} {met rs : List ℕ} → Links s a met rs → a % unitBytes ≡ 0 → (i : ℕ) → i < length rs → Placed s (getD rs i 0)
 links-each links-end z i l = absurd (omega arith)
 links-each (links-more n f u k) z zero l = record { facts = f; unit = z; past = omega arith }
 links-each (links-more n f u k) z (suc i) l = links-each k (omega arith) i (omega arith)
@@ -263,11 +271,6 @@ links-each (links-more n f u k) z (suc i) l = links-each k (omega arith) i (omeg
 pub links-some : {s : List ℕ} {a : ℕ} {met rs : List ℕ} → Links s a met rs → (j : ℕ) → j < length rs → a ≡ 0 → ⊥
 links-some links-end j l = absurd (omega arith)
 links-some (links-more n f u k) j l = n
-
--- at 0 there is none
-pub links-none : {s : List ℕ} {a : ℕ} {met rs : List ℕ} → Links s a met rs → a ≡ 0 → rs ≡ []
-links-none links-end z = refl
-links-none (links-more n f u k) z = absurd (n z)
 
 -- a record ends before the next one
 links-ahead : {s : List ℕ} {a : ℕ} {met bs : List ℕ} → RecordFacts s a → Links s (unitBytes * nextAt s a) met bs → (j : ℕ) → j < length bs
@@ -321,40 +324,40 @@ links-differ (links-more n f u k) (suc i) (suc j) h l = links-differ k i j (omeg
 
 -- what the end of a chain is known for
 pub record EndFacts (s rs : List ℕ) : Type 0 where
-  pub unit : endOf s rs % 16 ≡ 0
-  pub past : linkOf rs + 16 ≤ endOf s rs
-  pub inside : endOf s rs ≤ length s
+  pub unit : chainEnd s rs % unitBytes ≡ 0
+  pub past : linkOf rs + unitBytes ≤ chainEnd s rs
+  pub inside : chainEnd s rs ≤ length s
 
 -- with no record
 end-none : (s : List ℕ) → HeaderFacts s → EndFacts s []
-unfolding endOf linkOf
+unfolding chainEnd linkOf
 end-none s h = record { unit = omega arith; past = omega arith; inside = h .least }
 
 -- with one record more in front
-end-more : (s : List ℕ) (a : ℕ) (bs : List ℕ) → RecordFacts s a → a % 16 ≡ 0 → EndFacts s bs → EndFacts s (a ∷ bs)
-unfolding endOf linkOf
+end-more : (s : List ℕ) (a : ℕ) (bs : List ℕ) → RecordFacts s a → a % unitBytes ≡ 0 → EndFacts s bs → EndFacts s (a ∷ bs)
+unfolding chainEnd linkOf
 end-more s a [] f z e = record { unit = omega arith; past = omega arith; inside = f .inside }
 end-more s a (b ∷ bs) f z e = record { unit = e .unit; past = e .past; inside = e .inside }
 
 -- of all records
-links-ended : {s : List ℕ} {a : ℕ} {met rs : List ℕ} → HeaderFacts s → Links s a met rs → a % 16 ≡ 0 → EndFacts s rs
+links-ended : {s : List ℕ} {a : ℕ} {met rs : List ℕ} → HeaderFacts s → Links s a met rs → a % unitBytes ≡ 0 → EndFacts s rs
 links-ended {s} h links-end z = end-none s h
 links-ended {s} {a} h (links-more n f u k) z = end-more s a _ f z (links-ended h k (omega arith))
 
 -- the end of more records than one
-end-rest : (s : List ℕ) (a : ℕ) (bs : List ℕ) → 0 < length bs → endOf s (a ∷ bs) ≡ endOf s bs
-unfolding endOf
+end-rest : (s : List ℕ) (a : ℕ) (bs : List ℕ) → 0 < length bs → chainEnd s (a ∷ bs) ≡ chainEnd s bs
+unfolding chainEnd
 end-rest s a [] l = absurd (omega arith)
 end-rest s a (b ∷ bs) l = refl
 
 -- the first record ends by the end of the last
-end-first : (s : List ℕ) (a : ℕ) (bs : List ℕ) → (0 < length bs → endAt s a ≤ endOf s bs) → endAt s a ≤ endOf s (a ∷ bs)
-unfolding endOf
+end-first : (s : List ℕ) (a : ℕ) (bs : List ℕ) → (0 < length bs → endAt s a ≤ chainEnd s bs) → endAt s a ≤ chainEnd s (a ∷ bs)
+unfolding chainEnd
 end-first s a [] h = omega arith
 end-first s a (b ∷ bs) h = h (omega arith)
 
 -- and so does each
-links-within : {s : List ℕ} {a : ℕ} {met rs : List ℕ} → Links s a met rs → (i : ℕ) → i < length rs → endAt s (getD rs i 0) ≤ endOf s rs
+links-within : {s : List ℕ} {a : ℕ} {met rs : List ℕ} → Links s a met rs → (i : ℕ) → i < length rs → endAt s (getD rs i 0) ≤ chainEnd s rs
 links-within links-end i l = absurd (omega arith)
 links-within {s} (links-more {a} {met} {bs} n f u k) zero l =
     end-first s a bs (λ m. omega (arith, links-order (links-more n f u k) 0 1 (omega arith) (omega arith), links-within k 0 m))
@@ -366,7 +369,7 @@ pub record ChainFacts (s rs : List ℕ) : Type 0 where
   pub each : (i : ℕ) → i < length rs → Placed s (getD rs i 0)
   pub order : (i j : ℕ) → i < j → j < length rs → endAt s (getD rs i 0) ≤ getD rs j 0
   pub differ : (i j : ℕ) → i < j → j < length rs → labelAt s (getD rs i 0) ≡ labelAt s (getD rs j 0) → ⊥
-  pub within : (i : ℕ) → i < length rs → endAt s (getD rs i 0) ≤ endOf s rs
+  pub within : (i : ℕ) → i < length rs → endAt s (getD rs i 0) ≤ chainEnd s rs
   pub ended : EndFacts s rs
 
 -- a sound chain has the facts
@@ -381,6 +384,50 @@ chain-facts s rs e =
       within = links-within (k .1);
       ended = links-ended (k .0) (k .1) (omega arith);
     }
+
+-- ---- how many records there are
+-- the labels from 1 to n that are not among those met
+unfoldable free : List ℕ → ℕ → ℕ
+free met zero = 0
+free met (suc n) = free met n + cond (among (suc n) met) 0 1
+
+free-all : (n : ℕ) → free [] n ≡ n
+unfolding free among
+free-all zero = refl
+free-all (suc n) = omega (arith, free-all n)
+
+-- a label past n is none of them
+free-past : (met : List ℕ) (l n : ℕ) → n < l → free (l ∷ met) n ≡ free met n
+unfolding free among
+free-past met l zero h = refl
+free-past met l (suc n) h =
+    let k : eqb (suc n) l ≡ false = ne-eqb (suc n) l (λ e. omega arith) in
+    simp (k, free-past met l n (omega arith))
+
+-- a label not met takes one away
+free-more : (met : List ℕ) (l n : ℕ) → 1 ≤ l → l ≤ n → among l met ≡ false → free met n ≡ free (l ∷ met) n + 1
+unfolding free among
+free-more met l zero p q h = absurd (omega arith)
+free-more met l (suc n) p q h = go (eqb (suc n) l) refl (free-more met l n p)
+  where
+    go : (t : Bool) → eqb (suc n) l ≡ t → (l ≤ n → among l met ≡ false → free met n ≡ free (l ∷ met) n + 1)
+        → free met n + cond (among (suc n) met) 0 1 ≡ free (l ∷ met) n + cond (t || among (suc n) met) 0 1 + 1
+    go true e later =
+        let z : suc n ≡ l = eqb-true (suc n) l e in
+        let m : among (suc n) met ≡ false = ap (λ (k : ℕ). among k met) z ∙ h in
+        simp (m, free-past met l n (omega arith)) (omega arith)
+    go false e later =
+        let z : l ≤ n = omega (arith, eqb-false (suc n) l e) in
+        omega (arith, later z h)
+
+-- the records of a chain have labels of their own
+links-labels : {s : List ℕ} {a : ℕ} {met rs : List ℕ} → Links s a met rs → length rs ≤ free met mostLabel
+links-labels links-end = omega arith
+links-labels {s} {a} {met} (links-more n f u k) = omega (arith, links-labels k, free-more met (labelAt s a) mostLabel (f .low) (f .high) u)
+
+-- so there are at most 64
+pub chain-few : (s rs : List ℕ) → chainOf s ≡ some rs → length rs ≤ mostLabel
+chain-few s rs e = omega (arith, links-labels (chain-links s rs e .1), free-all mostLabel)
 
 -- ---- the record of a label
 -- one of the records, with that label
@@ -422,8 +469,8 @@ link-last (b ∷ []) a = refl
 link-last (b ∷ c ∷ cs) a = link-last (c ∷ cs) a
 
 -- and the chain ends where that one ends
-pub end-last : (s xs : List ℕ) (a : ℕ) → endOf s (xs ++ (a ∷ [])) ≡ endAt s a
-unfolding endOf
+pub end-last : (s xs : List ℕ) (a : ℕ) → chainEnd s (xs ++ (a ∷ [])) ≡ endAt s a
+unfolding chainEnd
 end-last s [] a = refl
 end-last s (b ∷ []) a = refl
 end-last s (b ∷ c ∷ cs) a = end-last s (c ∷ cs) a
@@ -490,11 +537,11 @@ opened s label e =
 -- a value says that no line applies
 value-told : (v : Option ℕ) (x y : ℕ) → value x ≡ unless v refused (value y) → (v ≡ none) × (x ≡ y)
 value-told none x y e = (refl, cc)
-value-told (some n) x y e = let z : _≡_ {A = ℕ} 0 1 = cc in absurd (omega arith)
+value-told (some n) x y e = no-confusion cc
 
 -- a refusal says which line does
 refused-told : (v : Option ℕ) (n y : ℕ) → refused n ≡ unless v refused (value y) → v ≡ some n
-refused-told none n y e = let z : _≡_ {A = ℕ} 0 1 = cc in absurd (omega arith)
+refused-told none n y e = no-confusion cc
 refused-told (some m) n y e = cc
 
 -- an opening that answers a value is not refused, and the value is the row's place
@@ -507,12 +554,6 @@ pub opened-refused : (s : List ℕ) (label : ℕ) (o : Answer) (r : Refusal) →
     → judge (openTable s label) ≡ some (numberOf r)
 opened-refused s label o r e d = refused-told (judge (openTable s label)) (numberOf r) (rowPlace s label) (sym (ap toldOf d) ∙ e)
 
--- an opened row's record
-pub opened-record : (s : List ℕ) (label : ℕ) (o : Answer) (at : ℕ) → toldOf o ≡ openTold s label → o ≡ Value at → RecordFacts s at
-opened-record s label o at e d =
-    let k = opened-value s label o at e d in
-    subst (RecordFacts s) (sym (k .1)) (opened s label (k .0) .placed .facts)
-
 -- the part of a refused opening
 pub part-refused : (s : List ℕ) (label : ℕ) (o : Answer) (r : Refusal) → toldOf o ≡ openTold s label → o ≡ Refused r → [] ≡ openPart s label
 part-refused s label o r e d =
@@ -524,6 +565,6 @@ part-opened s label o at e d =
     let k = opened-value s label o at e d in
     ap (partAt s) (k .1) ∙ ap (λ (v : Option ℕ). unless v (λ n. []) (rowPart s label)) (sym (k .0))
 
--- a part from a to a + n
-pub part-taken : (s : List ℕ) (a n m : ℕ) → n ≡ m → take (a + n - a) (drop a s) ≡ take m (drop a s)
-part-taken s a n m e = let z : a + n - a ≡ m = omega arith in simp z
+-- a part from a to its end
+pub part-taken : (s : List ℕ) (a end m : ℕ) → end ≡ a + m → take (end - a) (drop a s) ≡ take m (drop a s)
+part-taken s a end m e = let z : end - a ≡ m = omega arith in simp z

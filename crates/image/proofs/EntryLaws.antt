@@ -1,28 +1,48 @@
--- An entry from its numbers, and its fields read from its two halves. Assumes nothing.
+-- An entry from its numbers, which are counted block by block, and its fields read from its two halves. Assumes nothing.
 use mathlib.Core.Path.{_≡_, sym, ap, ap₂, _∙_, subst}
 use mathlib.Core.List.{List}
 use Prim.Native.Nat.{ℕ, zero, suc, _+_, _-_, _*_, _/_, _%_, _^_, _≤_, _<_}
 use native.Mathlib.Nat.{mod-lt, mod-eq-of-lt, mul-zero, mul-mod-left, div-one, div-eq-of-lt, add-mul-div-left, add-mul-mod-self-left}
 use native.Mathlib.Numerals.{add-one}
 use native.Mathlib.Omega.{arith}
+use lib.Dec.{lit<}
+use lib.ListN.{length, set, getD, length-set}
 use lib.Pow as P
-use lib.Pow.{shl-shr, shr-shr, shr-lt, mod-mod-pow, pow-pos}
+use lib.Pow.{shl-exact, shl-shr, shr-shr, shr-lt, mod-mod-pow, pow-pos}
 use Rattle.words.specs.Bits.{ones, digits}
-use Rattle.words.proofs.Sums.{ones-zero, ones-split, ones-le}
+use Rattle.words.proofs.Sums.{sum-zero, sum-split, sum-ext, ones-le, stored-more}
 use Rattle.words.proofs.DigitLaws.{digits-ext, digits-at}
 use Rattle.image.specs.Bytes.{num}
 use Rattle.image.specs.Layout.{superblockEntry, entryOf}
+use Rattle.image.specs.Writing.{BlockCounts, EntryFits, entryFrom, HalvesOf}
 use Rattle.image.specs.Reading.{superblockField, blockField, entryOnes}
 use Rattle.image.proofs.NumberLaws.{num-halves}
 
 -- ---- an entry from its numbers
 -- the ones of a superblock before one of its blocks fit their 12 bits
-pub block-ones-lt : (g : ℕ → ℕ) (j : ℕ) → ((p : ℕ) → g p ≤ 1) → j < 7 → ones g (512 * (j + 1)) < 4096
+pub block-ones-lt : (g : ℕ → ℕ) (j : ℕ) → ((p : ℕ) → g p ≤ 1) → j < 7 → ones g (512 * (j + 1)) < 2 ^ 12
 block-ones-lt g j b h = omega (arith, ones-le g (512 * (j + 1)) b)
 
--- with those before the superblock they make its entry
-pub entry-made : (g c : ℕ → ℕ) (sum : ℕ) → ((j : ℕ) → j < 7 → c j ≡ ones g (512 * (j + 1))) → sum + 2 ^ 44 * digits (2 ^ 12) c 7 ≡ superblockEntry g sum
-entry-made g c sum h = ap (λ (d : ℕ). sum + 2 ^ 44 * d) (digits-ext (2 ^ 12) c (λ j. ones g (512 * (j + 1))) 7 h)
+-- with the ones before the superblock, the ones up to the end of each block fit the fields of an entry
+pub counts-fit : (g : ℕ → ℕ) (c : List ℕ) (sum : ℕ) → BlockCounts g c → ((p : ℕ) → g p ≤ 1) → sum < 2 ^ 44 → EntryFits sum c
+counts-fit g c sum h b l =
+    record { first = l; long = h .long; others = λ j k. omega (arith, h .ends j (omega arith), block-ones-lt g j b k) }
+
+-- and make the superblock's entry
+pub entry-made : (g : ℕ → ℕ) (c : List ℕ) (sum : ℕ) → BlockCounts g c → entryFrom sum c ≡ superblockEntry g sum
+entry-made g c sum h =
+    ap (λ (d : ℕ). sum + 2 ^ 44 * d) (digits-ext (2 ^ 12) (λ j. getD c j 0) (λ j. ones g (512 * (j + 1))) 7 (λ j l. h .ends j (omega arith)))
+
+-- of equal bits they are equal
+pub counts-ext : (f g : ℕ → ℕ) (c : List ℕ) → BlockCounts f c → ((p : ℕ) → p < 4096 → f p ≡ g p) → BlockCounts g c
+counts-ext f g c h e =
+    record { long = h .long; ends = λ j l. h .ends j l ∙ sum-ext f g (512 * (j + 1)) (λ p q. e p (omega arith)) }
+
+-- and so is the entry
+pub entry-ext : (f g : ℕ → ℕ) (sum : ℕ) → ((p : ℕ) → p < 4096 → f p ≡ g p) → superblockEntry f sum ≡ superblockEntry g sum
+entry-ext f g sum e =
+    ap (λ (d : ℕ). sum + 2 ^ 44 * d)
+    (digits-ext (2 ^ 12) (λ j. ones f (512 * (j + 1))) (λ j. ones g (512 * (j + 1))) 7 (λ j l. sum-ext f g (512 * (j + 1)) (λ p q. e p (omega arith))))
 
 -- that of superblock e, with the row's ones before it, is entry e
 pub entry-placed : (f : ℕ → ℕ) (e sum : ℕ) → sum ≡ ones f (4096 * e) → superblockEntry (λ p. f (4096 * e + p)) sum ≡ entryOf f e
@@ -36,10 +56,71 @@ digits-seven b g =
     let e : g 6 + b * 0 ≡ g 6 = omega (arith, mul-zero b) in
     ap (λ (x : ℕ). g 0 + b * (g 1 + b * (g 2 + b * (g 3 + b * (g 4 + b * (g 5 + b * x)))))) e
 
--- the ones before the superblock, then seven digits
-pub entry-is : (g : ℕ → ℕ) (w sum : ℕ) → w ≡ sum + 2 ^ 44 * (g 0 + 4096 * (g 1 + 4096 * (g 2 + 4096 * (g 3 + 4096 * (g 4 + 4096 * (g 5 + 4096 * g 6))))))
-    → w ≡ sum + 2 ^ 44 * digits (2 ^ 12) g 7
-entry-is g w sum h = h ∙ ap (λ (d : ℕ). sum + 2 ^ 44 * d) (sym (digits-seven (2 ^ 12) g))
+-- the numbers of an entry fit their fields, one by one
+pub fields-lt : (sum : ℕ) (c : List ℕ) → EntryFits sum c
+    → (sum < 2 ^ 44) × (getD c 0 0 < 2 ^ 12) × (getD c 1 0 < 2 ^ 12) × (getD c 2 0 < 2 ^ 12) × (getD c 3 0 < 2 ^ 12) × (getD c 4 0 < 2 ^ 12)
+    × (getD c 5 0 < 2 ^ 12) × (getD c 6 0 < 2 ^ 12)
+fields-lt sum c h =
+    let s = h .others in
+    (h .first, s 0 (lit< tt), s 1 (lit< tt), s 2 (lit< tt), s 3 (lit< tt), s 4 (lit< tt), s 5 (lit< tt), s 6 (lit< tt))
+
+-- the entry with them in two words: all shifts are exact but that of the second count to bit 56, which leaves its low 8 bits
+pub halves-made : (sum : ℕ) (c : List ℕ) → EntryFits sum c
+    → HalvesOf (entryFrom sum c) (sum + (getD c 0 0 * 2 ^ 44) % 2 ^ 64 + (getD c 1 0 * 2 ^ 56) % 2 ^ 64)
+    (getD c 1 0 / 2 ^ 8 + (getD c 2 0 * 2 ^ 4) % 2 ^ 64 + (getD c 3 0 * 2 ^ 16) % 2 ^ 64 + (getD c 4 0 * 2 ^ 28) % 2 ^ 64
+    + (getD c 5 0 * 2 ^ 40) % 2 ^ 64 + (getD c 6 0 * 2 ^ 52) % 2 ^ 64)
+halves-made sum c h =
+    record {
+      whole =
+          rw (
+            exact 0 44 (lit< tt) (omega arith),
+            split (getD c 1 0),
+            exact 2 4 (lit< tt) (omega arith),
+            exact 3 16 (lit< tt) (omega arith),
+            exact 4 28 (lit< tt) (omega arith),
+            exact 5 40 (lit< tt) (omega arith),
+            exact 6 52 (lit< tt) (omega arith),
+            digits-seven (2 ^ 12) (λ j. getD c j 0),
+          ) (go sum (getD c 0 0) (getD c 1 0) (getD c 2 0) (getD c 3 0) (getD c 4 0) (getD c 5 0) (getD c 6 0));
+      small = omega (arith, fields-lt sum c h);
+    }
+  where
+    exact : (j k : ℕ) → j < 7 → k ≤ 52 → (getD c j 0 * 2 ^ k) % 2 ^ 64 ≡ getD c j 0 * 2 ^ k
+    exact j k l m = shl-exact 12 k 64 (h .others j l) (omega arith)
+
+    split : (x : ℕ) → (x * 2 ^ 56) % 2 ^ 64 ≡ x % 2 ^ 8 * 2 ^ 56
+    split x = omega arith
+
+    go : (a x0 x1 x2 x3 x4 x5 x6 : ℕ)
+        → a + x0 * 2 ^ 44 + x1 % 2 ^ 8 * 2 ^ 56 + 2 ^ 64 * (x1 / 2 ^ 8 + x2 * 2 ^ 4 + x3 * 2 ^ 16 + x4 * 2 ^ 28 + x5 * 2 ^ 40 + x6 * 2 ^ 52)
+        ≡ a + 2 ^ 44 * (x0 + 2 ^ 12 * (x1 + 2 ^ 12 * (x2 + 2 ^ 12 * (x3 + 2 ^ 12 * (x4 + 2 ^ 12 * (x5 + 2 ^ 12 * x6))))))
+    go a x0 x1 x2 x3 x4 x5 x6 = omega arith
+
+-- ---- the blocks of a superblock of bits g counted one after another: `sum` is the ones before block j
+pub record Counting (g : ℕ → ℕ) (c : List ℕ) (sum j : ℕ) : Type 0 where
+  pub within : j ≤ 8
+  pub long : length c ≡ 8
+  pub count : sum ≡ ones g (512 * j)
+  pub ends : (i : ℕ) → i < j → getD c i 0 ≡ ones g (512 * (i + 1))
+
+-- none is counted yet
+pub counting-none : (g : ℕ → ℕ) (c : List ℕ) → length c ≡ 8 → Counting g c 0 0
+counting-none g c h = record { within = omega arith; long = h; count = sym (sum-zero g); ends = (λ i l. absurd (omega arith)) }
+
+-- one block more
+pub counting-more : (g : ℕ → ℕ) (c : List ℕ) (sum j next : ℕ) → Counting g c sum j → j < 8 → next ≡ ones g (512 * (j + 1))
+    → Counting g (set c j next) next (j + 1)
+counting-more g c sum j next x h is =
+    record {
+      within = omega arith;
+      long = length-set c j next ∙ x .long;
+      count = is;
+      ends = stored-more (λ i. ones g (512 * (i + 1))) c j next (omega (arith, x .long)) (x .ends) is;
+    }
+
+-- all eight are counted
+pub counting-done : (g : ℕ → ℕ) (c : List ℕ) (sum j : ℕ) → Counting g c sum j → 8 ≤ j → BlockCounts g c
+counting-done g c sum j x h = record { long = x .long; ends = λ i l. x .ends i (omega arith) }
 
 -- ---- what an entry holds
 module _ (f : ℕ → ℕ) (e : ℕ) (small : ones f (4096 * e) < 2 ^ 44) where
@@ -52,7 +133,7 @@ module _ (f : ℕ → ℕ) (e : ℕ) (small : ones f (4096 * e) < 2 ^ 44) where
   -- the ones of its superblock before block j
   pub entry-block : (j : ℕ) → ((p : ℕ) → f p ≤ 1) → j < 8 → blockField (entryOf f e) j ≡ ones (λ p. f (4096 * e + p)) (512 * j)
   unfolding entryOf blockField
-  entry-block zero b h = sym (ones-zero (λ p. f (4096 * e + p)))
+  entry-block zero b h = sym (sum-zero (λ p. f (4096 * e + p)))
   entry-block (suc j) b h =
       let g : ℕ → ℕ = λ j. ones (λ p. f (4096 * e + p)) (512 * (j + 1)) in
       let d : ℕ = digits (2 ^ 12) g 7 in
@@ -69,7 +150,7 @@ pub entry-before : (f : ℕ → ℕ) (m : ℕ) → ones f (4096 * (m / 8)) < 2 ^
 entry-before f m small b =
     let e : 4096 * (m / 8) + 512 * (m % 8) ≡ 512 * m = omega arith in
     ap₂ (λ (x y : ℕ). x + y) (entry-superblock f (m / 8) small) (entry-block f (m / 8) small (m % 8) b (omega arith))
-    ∙ sym (ones-split f (4096 * (m / 8)) (512 * (m % 8)))
+    ∙ sym (sum-split f (4096 * (m / 8)) (512 * (m % 8)))
     ∙ ap (ones f) e
 
 -- ---- the fields from the two halves of an entry
@@ -102,38 +183,38 @@ word-lt low high l = subst (λ (x : ℕ). x < 2 ^ 64) (sym (word low high l)) (m
 
 -- blocks 0 to 4 lie in it
 pub field-low : (low high j : ℕ) → low < 2 ^ 64 → j < 5
-    → ((low / 2 ^ 44 * 2 ^ 12) % 2 ^ 64 + (high * 2 ^ 32) % 2 ^ 64) / 2 ^ (12 * j) % 4096 ≡ blockField (low + 2 ^ 64 * high) j
+    → ((low / 2 ^ 44 * 2 ^ 12) % 2 ^ 64 + (high * 2 ^ 32) % 2 ^ 64) / 2 ^ (12 * j) % 2 ^ 12 ≡ blockField (low + 2 ^ 64 * high) j
 unfolding blockField
 field-low low high j l h =
-    ap (λ (x : ℕ). x / 2 ^ (12 * j) % 4096) (word low high l)
+    ap (λ (x : ℕ). x / 2 ^ (12 * j) % 2 ^ 12) (word low high l)
     ∙ kept (w * 2 ^ 12) 64 (12 * j) (omega arith)
     ∙ go j
   where
     w : ℕ
     w = low / 2 ^ 44 + 2 ^ 20 * high
 
-    go : (j : ℕ) → w * 2 ^ 12 / 2 ^ (12 * j) % 4096 ≡ blockField (low + 2 ^ 64 * high) j
-    go zero = ap (λ (x : ℕ). x % 4096) (div-one (w * 2 ^ 12)) ∙ mul-mod-left w 4096
+    go : (j : ℕ) → w * 2 ^ 12 / 2 ^ (12 * j) % 2 ^ 12 ≡ blockField (low + 2 ^ 64 * high) j
+    go zero = ap (λ (x : ℕ). x % 2 ^ 12) (div-one (w * 2 ^ 12)) ∙ mul-mod-left w (2 ^ 12)
     go (suc j) =
         let v : ℕ = low + 2 ^ 64 * high in
         let e : 12 * suc j ≡ 12 + 12 * j = omega arith in
-        ap (λ (x : ℕ). x % 4096)
+        ap (λ (x : ℕ). x % 2 ^ 12)
         (ap (λ (i : ℕ). w * 2 ^ 12 / 2 ^ i) e ∙ sym (shr-shr (w * 2 ^ 12) 12 (12 * j)) ∙ ap (λ (x : ℕ). x / 2 ^ (12 * j)) (shl-shr w 12 ∙ sym (past low high))
         ∙ shr-shr v 44 (12 * j))
 
 -- blocks 3 to 7 in the high half
-pub field-high : (low high j : ℕ) → low < 2 ^ 64 → 3 ≤ j → high / 2 ^ (12 * j - 32) % 4096 ≡ blockField (low + 2 ^ 64 * high) j
+pub field-high : (low high j : ℕ) → low < 2 ^ 64 → 3 ≤ j → high / 2 ^ (12 * j - 32) % 2 ^ 12 ≡ blockField (low + 2 ^ 64 * high) j
 unfolding blockField
 field-high low high zero l h = absurd (omega arith)
 field-high low high (suc j) l h =
     let e : 64 + (12 * suc j - 32) ≡ 44 + 12 * j = omega arith in
     let u : (low + 2 ^ 64 * high) / 2 ^ 64 ≡ high = omega arith in
-    sym (ap (λ (x : ℕ). (low + 2 ^ 64 * high) / 2 ^ x % 4096) (sym e)
-    ∙ ap (λ (x : ℕ). x % 4096) (sym (shr-shr (low + 2 ^ 64 * high) 64 (12 * suc j - 32)))
-    ∙ ap (λ (x : ℕ). x / 2 ^ (12 * suc j - 32) % 4096) u)
+    sym (ap (λ (x : ℕ). (low + 2 ^ 64 * high) / 2 ^ x % 2 ^ 12) (sym e)
+    ∙ ap (λ (x : ℕ). x % 2 ^ 12) (sym (shr-shr (low + 2 ^ 64 * high) 64 (12 * suc j - 32)))
+    ∙ ap (λ (x : ℕ). x / 2 ^ (12 * suc j - 32) % 2 ^ 12) u)
 
 -- each has 12 bits
-pub block-lt : (v j : ℕ) → blockField v j < 4096
+pub block-lt : (v j : ℕ) → blockField v j < 2 ^ 12
 unfolding blockField
 block-lt v zero = omega arith
 block-lt v (suc j) = mod-lt (v / 2 ^ (44 + 12 * j)) (pow-pos 12)
@@ -144,16 +225,17 @@ pub entry-ones-is : (s : List ℕ) (m low high r : ℕ) → low ≡ num s (16 + 
 unfolding entryOnes
 entry-ones-is s m low high r l h e =
     let w : 2 ^ 64 * high ≡ 2 ^ 44 * (2 ^ 20 * high) = omega arith in
-    let u : low % 2 ^ 44 ≡ superblockField (low + 2 ^ 64 * high) = sym (ap (λ (x : ℕ). (low + x) % 2 ^ 44) w ∙ add-mul-mod-self-left low (2 ^ 44) (2 ^ 20 * high)) in
+    let u : low % 2 ^ 44 ≡ superblockField (low + 2 ^ 64 * high) =
+    sym (ap (λ (x : ℕ). (low + x) % 2 ^ 44) w ∙ add-mul-mod-self-left low (2 ^ 44) (2 ^ 20 * high)) in
     ap₂ (λ (x y : ℕ). x + y) u e ∙ ap (λ (x : ℕ). superblockField x + blockField x (m % 8)) (num-halves s (16 + 16 * (m / 8)) low high l h)
 
--- they are below 2^44 and 4096 together
-pub entry-ones-lt : (s : List ℕ) (m : ℕ) → entryOnes s m < 17592186048512
+-- their bound
+pub entry-ones-lt : (s : List ℕ) (m : ℕ) → entryOnes s m < 2 ^ 44 + 2 ^ 12
 unfolding entryOnes
 entry-ones-lt s m = go (superblockField v) (blockField v (m % 8)) (mod-lt v (pow-pos 44)) (block-lt v (m % 8))
   where
     v : ℕ
     v = num s (16 + 16 * (m / 8)) 16
 
-    go : (x y : ℕ) → x < 2 ^ 44 → y < 4096 → x + y < 17592186048512
+    go : (x y : ℕ) → x < 2 ^ 44 → y < 2 ^ 12 → x + y < 2 ^ 44 + 2 ^ 12
     go x y h k = omega arith

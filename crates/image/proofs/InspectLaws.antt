@@ -1,23 +1,24 @@
 -- The inspection: accepted exactly where an image obeys the layout, each refusal exactly where its line says, and the walk over the rows. Assumes nothing.
 use mathlib.Core.Path.{_≡_, refl, sym, ap, ap₂, subst, _∙_}
-use mathlib.Core.Bool.{Bool, true, false}
-use mathlib.Core.List.{List, [], _∷_}
+use mathlib.Core.Bool.{Bool, true, false, _&&_}
+use mathlib.Core.List.{List, [], _∷_, _++_}
 use mathlib.Core.Option.{Option, some, none}
 use Prim.Native.Nat.{ℕ, zero, suc, _+_, _*_, _<_, _≤_}
 use native.Mathlib.Omega.{arith}
-use lib.ListN.{length, getD}
+use lib.ListN.{length, getD, length-append}
 use Rattle.words.specs.Refusals.{Told, value, refused}
 use Rattle.words.proofs.BoolLaws.{and-intro, and-first, and-second, true-false}
 use Rattle.image.specs.Bytes.{num}
-use Rattle.image.specs.Layout.{unitBytes, mostBytes}
-use Rattle.image.specs.Chain.{nextAt, labelAt, lengthAt, chainOf}
+use Rattle.image.specs.Layout.{unitBytes, mostLabel}
+use Rattle.image.specs.Chain.{nextAt, lengthAt, chainOf}
 use Rattle.image.specs.Rows.{partAt, Right, rightPart, RightAt, Obeys, HasWrongRow}
-use Rattle.image.specs.Written.{Labelled, written}
+use Rattle.image.specs.Shelf.{Labelled, written}
 use Rattle.image.specs.Calls.{isSome, recordsIn, recordsOf, allRight, inspectTold, goodPart}
 use Rattle.image.proofs.RightLaws.{right-test, test-right}
-use Rattle.image.proofs.ChainLaws.{RecordFacts, Links, links-end, links-more, links-none, links-some, chain-links, some-in}
+use Rattle.image.proofs.ChainLaws.{no-confusion, RecordFacts, some-in, chain-few}
+use Rattle.image.proofs.WalkLaws.{SoundWalk, Turn, walk-none, walk-turn, walk-done}
 use Rattle.image.proofs.RowLaws.{part-held, part-good}
-use Rattle.image.proofs.WrittenLaws.{Good, places, length-places, written-chain, written-records, written-row}
+use Rattle.image.proofs.ShelfLaws.{Good, places, length-places, written-chain, written-records, written-row}
 
 -- ---- right rows
 -- the test of a row at byte a
@@ -46,6 +47,16 @@ all-more s a rs h = simp (h, allRight)
 all-wrong : (s : List ℕ) (a : ℕ) (rs : List ℕ) → rowTest s a ≡ false → allRight s (a ∷ rs) ≡ false
 unfolding allRight
 all-wrong s a rs h = simp (h, allRight)
+
+-- the rows of some records, then of others
+all-append : (s xs ys : List ℕ) → allRight s (xs ++ ys) ≡ (allRight s xs && allRight s ys)
+unfolding allRight
+all-append s [] ys = refl
+all-append s (a ∷ xs) ys = ap (λ (t : Bool). rowTest s a && t) (all-append s xs ys) ∙ sym (and-assoc (rowTest s a) (allRight s xs) (allRight s ys))
+  where
+    and-assoc : (t u v : Bool) → (t && u && v) ≡ (t && (u && v))
+    and-assoc true u v = refl
+    and-assoc false u v = refl
 
 -- where the test fails, some row is not right
 wrong-one : (s rs : List ℕ) → allRight s rs ≡ false → (i : ℕ) × (i < length rs) × (RightAt s (getD rs i 0) → ⊥)
@@ -114,8 +125,8 @@ pub inspect-obeys : (s : List ℕ) (n : ℕ) → inspectTold s ≡ value n → O
 inspect-obeys s n e = go (inspection s) e
   where
     go : {t : Told} → Inspection s t → t ≡ value n → Obeys s × (n ≡ length (recordsOf s))
-    go (is-unsound p) q = let z : _≡_ {A = ℕ} 0 1 = cc in absurd (omega arith)
-    go (is-wrong w) q = let z : _≡_ {A = ℕ} 0 1 = cc in absurd (omega arith)
+    go (is-unsound p) q = no-confusion cc
+    go (is-wrong w) q = no-confusion cc
     go (is-right o) q = (o, cc)
 
 -- 10 only where the chain is not sound
@@ -124,17 +135,17 @@ inspect-unsound-only s e = go (inspection s) e
   where
     go : {t : Told} → Inspection s t → t ≡ refused 10 → chainOf s ≡ none
     go (is-unsound p) q = p
-    go (is-wrong w) q = let z : _≡_ {A = ℕ} 15 10 = cc in absurd (omega arith)
-    go (is-right o) q = let z : _≡_ {A = ℕ} 0 1 = cc in absurd (omega arith)
+    go (is-wrong w) q = no-confusion cc
+    go (is-right o) q = no-confusion cc
 
 -- 15 only where the chain is sound and some row is not right
 pub inspect-wrong-only : (s : List ℕ) → inspectTold s ≡ refused 15 → HasWrongRow s
 inspect-wrong-only s e = go (inspection s) e
   where
     go : {t : Told} → Inspection s t → t ≡ refused 15 → HasWrongRow s
-    go (is-unsound p) q = let z : _≡_ {A = ℕ} 10 15 = cc in absurd (omega arith)
+    go (is-unsound p) q = no-confusion cc
     go (is-wrong w) q = w
-    go (is-right o) q = let z : _≡_ {A = ℕ} 0 1 = cc in absurd (omega arith)
+    go (is-right o) q = no-confusion cc
 
 -- ---- rows written out
 -- good rows written out obey the layout
@@ -159,87 +170,54 @@ written-inspected rs base g =
     ∙ ap value (length-places 1 rs)
 
 -- ---- the walk over the rows
--- a chain that stands at a record: that record, and the chain from the next one on
-record Ahead (s : List ℕ) (at : ℕ) (met rest : List ℕ) : Type 0 where
-  facts : RecordFacts s at
-  after : List ℕ
-  is : rest ≡ at ∷ after
-  links : Links s (unitBytes * nextAt s at) (labelAt s at ∷ met) after
-
-links-record : {s : List ℕ} {at : ℕ} {met rest : List ℕ} → Links s at met rest → (at ≡ 0 → ⊥) → Ahead s at met rest
-links-record links-end n = absurd (n refl)
-links-record (links-more {a} {met} {bs} m f u k) n = record { facts = f; after = bs; is = refl; links = k }
-
--- each record takes a unit of the image
-links-few : {s : List ℕ} {at : ℕ} {met rest : List ℕ} → Links s at met rest → at + 16 * length rest ≤ length s
-links-few {s} links-end = omega arith
-links-few {s} (links-more {a} {met} {bs} n f u k) = go (length bs) refl (links-few k)
-  where
-    go : (m : ℕ) → length bs ≡ m → unitBytes * nextAt s a + 16 * length bs ≤ length s → a + 16 * suc (length bs) ≤ length s
-    go zero e few = omega (arith, f .room)
-    go (suc m) e few = omega (arith, f .ahead (λ z. links-some k 0 (omega arith) (omega arith)))
-
--- a walk that stands at byte `at` with `count` right rows behind it: the records from there on decide
+-- one that stands at byte `at` after `count` rows, all right
 pub record Inspected (s : List ℕ) (at count : ℕ) : Type 0 where
-  pub met : List ℕ
-  pub rest : List ℕ
-  pub chain : chainOf s ≡ some (recordsOf s)
-  pub links : Links s at met rest
-  pub total : count + length rest ≡ length (recordsOf s)
-  pub right : allRight s rest ≡ allRight s (recordsOf s)
+  pub past : List ℕ
+  pub walk : SoundWalk s at past
+  pub total : count ≡ length past
+  pub right : allRight s past ≡ true
 
 -- where it starts
 pub inspected-none : (s : List ℕ) → isSome (chainOf s) ≡ true → Inspected s (unitBytes * num s 0 4) 0
-inspected-none s h =
-    let e : chainOf s ≡ some (recordsOf s) = some-in (chainOf s) h in
-    record {
-      met = [];
-      rest = recordsOf s;
-      chain = e;
-      links = chain-links s (recordsOf s) e .1;
-      total = omega arith;
-      right = refl;
-    }
+unfolding allRight
+inspected-none s h = record { past = []; walk = walk-none s (some-in (chainOf s) h); total = refl; right = refl }
 
--- the record that it stands at, and the count with this one
+-- where it has not ended
 module _ {s : List ℕ} {at count : ℕ} (w : Inspected s at count) (n : at ≡ 0 → ⊥) where
-  abbrev first : Ahead s at (w .met) (w .rest)
-  first = links-record (w .links) n
+  abbrev turn : Turn s at (w .past)
+  turn = walk-turn (w .walk) n
 
+  -- it stands at a sound record
   pub inspected-record : RecordFacts s at
-  inspected-record = first .facts
+  inspected-record = turn .facts
 
-  pub inspected-few : count + 1 ≤ mostBytes
+  -- and the count with this one is at most 64
+  pub inspected-few : count + 1 ≤ mostLabel
   inspected-few =
-      let k = chain-links s (recordsOf s) (w .chain) in
-      omega (arith, w .total, ap length (first .is), links-few (k .1), k .0 .most)
+      omega (arith, w .total, ap length (turn .whole), length-append (w .past) (at ∷ turn .rest), chain-few s (recordsOf s) (w .walk .chain))
 
-  -- it is right: a turn
-  pub inspected-more : rowTest s at ≡ true → Inspected s (unitBytes * nextAt s at) (count + 1)
-  inspected-more h =
+  -- its row is right: a turn
+  pub inspected-more : (next : ℕ) → next ≡ unitBytes * nextAt s at → rowTest s at ≡ true → Inspected s next (count + 1)
+  unfolding allRight
+  inspected-more next e h =
       record {
-        met = labelAt s at ∷ w .met;
-        rest = first .after;
-        chain = w .chain;
-        links = first .links;
-        total = omega (arith, w .total, ap length (first .is));
-        right = sym (all-more s at (first .after) h) ∙ ap (allRight s) (sym (first .is)) ∙ w .right;
+        past = w .past ++ (at ∷ []);
+        walk = rw e (turn .more);
+        total = omega (arith, w .total, length-append (w .past) (at ∷ []));
+        right = all-append s (w .past) (at ∷ []) ∙ simp (w .right, h);
       }
 
   -- it is not: 15
   pub inspected-wrong : rowTest s at ≡ false → refused 15 ≡ inspectTold s
   inspected-wrong h =
-      sym (wrong-told s (recordsOf s) (w .chain)
-      (sym (w .right) ∙ ap (allRight s) (first .is) ∙ all-wrong s at (first .after) h))
+      sym (wrong-told s (recordsOf s) (w .walk .chain)
+      (ap (allRight s) (sym (turn .whole)) ∙ all-append s (w .past) (at ∷ turn .rest) ∙ simp (w .right, all-wrong s at (turn .rest) h)))
 
 -- where it ends
 pub inspected-done : {s : List ℕ} {at count : ℕ} → Inspected s at count → at ≡ 0 → value count ≡ inspectTold s
-unfolding allRight
-inspected-done {s} {at} {count} w z =
-    let e : w .rest ≡ [] = links-none (w .links) z in
-    let r : allRight s (recordsOf s) ≡ true = sym (w .right) ∙ ap (allRight s) e in
-    let t : count ≡ length (recordsOf s) = omega (arith, w .total, ap length e) in
-    ap value t ∙ sym (right-told s (recordsOf s) (w .chain) r)
+inspected-done {s} w z =
+    let e = walk-done (w .walk) z in
+    ap value (w .total ∙ ap length e) ∙ sym (right-told s (recordsOf s) (w .walk .chain) (ap (allRight s) (sym e) ∙ w .right))
 
 -- a record's part and the length that it holds, as they are read
 module _ (s : List ℕ) (at : ℕ) (part : List ℕ) (n : ℕ) (f : RecordFacts s at) (p : part ≡ partAt s at) (l : n ≡ lengthAt part 0) where

@@ -3,13 +3,12 @@ pub mod WalkLaws
 pub mod PutLaws
 pub mod WriteLaws
 pub mod FreezeLaws
-pub mod FrozenLaws
+pub mod RoundTripLaws
 pub mod NumberLaws
 pub mod EntryLaws
 pub mod PartLaws
-pub mod SameLaws
 pub mod RightLaws
-pub mod WrittenLaws
+pub mod ShelfLaws
 pub mod RowLaws
 pub mod InspectLaws
 pub mod OpenedLaws

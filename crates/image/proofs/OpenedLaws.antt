@@ -5,22 +5,22 @@ use mathlib.Core.Bool.{true, false}
 use mathlib.Core.List.{List, [], _∷_}
 use mathlib.Core.Option.{Option, some, none}
 use Prim.Native.Nat.{ℕ, _≤_}
-use native.Mathlib.Omega.{arith}
 use borrow.Author.Tests.{le-leb}
 use lib.ListN.{length}
 use Rattle.words.specs.Strip.{cell}
 use Rattle.words.specs.Refusals.{Line, judge, unless, Told, value, refused}
 use Rattle.words.specs.Calls.{valueLine, belowLine, withinLine, absentLine}
+use Rattle.image.specs.Layout.{headBytes}
 use Rattle.image.specs.Chain.{lengthAt}
 use Rattle.image.specs.Rows.{rowBits}
 use Rattle.image.specs.Calls.{openTable, openPart, heldLength, goodPart, partLine, partGetTold, PartRanked, PartSelected, rowPlace, rowPart, rowLength, rowGetTold, RowRanked, RowSelected}
 use Rattle.image.proofs.ChainLaws.{RecordFacts, opened}
-use Rattle.image.proofs.RowLaws.{part-long, part-length, part-good, RowHeld, row-look, row-count, row-find}
+use Rattle.image.proofs.RowLaws.{part-room, part-length, part-good, RowHeld, row-look, row-count, row-find}
 
 -- the length held with a part that has room for a record's numbers is the one among them
-held : (part : List ℕ) → 16 ≤ length part → heldLength part ≡ lengthAt part 0
+held-length : (part : List ℕ) → headBytes ≤ length part → heldLength part ≡ lengthAt part 0
 unfolding heldLength
-held part room = simp (le-leb 16 (length part) room)
+held-length part room = simp (le-leb headBytes (length part) room)
 
 -- ---- a row whose opening no line refuses
 module _ (s : List ℕ) (label : ℕ) (e : judge (openTable s label) ≡ none) where
@@ -36,7 +36,7 @@ module _ (s : List ℕ) (label : ℕ) (e : judge (openTable s label) ≡ none) w
   pub opened-held : heldLength (openPart s label) ≡ rowLength s label
   opened-held =
       ap heldLength opened-part
-      ∙ held (rowPart s label) (omega (arith, part-long s (rowPlace s label) facts))
+      ∙ held-length (rowPart s label) (part-room s (rowPlace s label) facts (rowPart s label) refl)
       ∙ part-length s (rowPlace s label) facts
 
   -- its part passes the check

@@ -17,17 +17,18 @@ use Rattle.words.specs.Working.{ofValue, atMost}
 use Rattle.words.specs.Words.{placeIn}
 use Rattle.words.specs.Refusals.{Line, judge, Told, value, refused, found}
 use Rattle.words.proofs.BoolLaws.{and-first, and-second}
-use Rattle.words.proofs.Sums.{lt-or, ones-zero, ones-le, ones-mono, part-ones, length-listOf, getD-listOf}
+use Rattle.words.proofs.Sums.{lt-or, sum-zero, ones-le, sum-mono, part-ones, length-listOf, getD-listOf}
 use Rattle.words.proofs.BitLaws.{bit-le, one-shl}
 use Rattle.words.proofs.SearchLaws.{select-exists, select-place, select-none, select-longer, rank-part, part-select, value-rank, value-le}
 use Rattle.counters.specs.Promises.{Promise, AtMost, Below}
 use Rattle.counters.proofs.PromiseLaws.{promise-passed}
 use Rattle.image.specs.Bytes.{num, bitFrom}
-use Rattle.image.specs.Layout.{superblocksIn, startIn, sizeIn, superblocksOf, bitsStart, sizeOf, entryOf, recordOf}
-use Rattle.image.specs.Chain.{labelAt, lengthAt, onesAt, goodLabel}
+use Rattle.image.specs.Layout.{headBytes, mostRow, superblocksIn, startIn, sizeIn, superblocksOf, bitsStart, sizeOf, entryOf, recordOf}
+use Rattle.image.specs.Chain.{lengthAt, onesAt, goodFields}
 use Rattle.image.specs.Rows.{rowBits, Right}
 use Rattle.image.specs.Calls.{goodPart}
 use Rattle.image.specs.Reading.{superblockField, blockField, entryOnes, Halved}
+use Rattle.image.proofs.ChainLaws.{fields-facts}
 use Rattle.image.proofs.WriteLaws.{listOf-past, listOf-all, record-total, record-entry, record-bit, rank-all}
 use Rattle.image.proofs.NumberLaws.{bytes-bit}
 use Rattle.image.proofs.EntryLaws.{entry-before}
@@ -77,7 +78,7 @@ pub record Indexed (part : List ℕ) (start blocks n : ℕ) (f told : ℕ → �
   pub bits : (p : ℕ) → p < 512 * blocks → bitFrom part start p ≡ f p
 
 -- of a right row: the number of its ones, and its index
-module _ (part : List ℕ) (n : ℕ) (short : n ≤ 134217728) (right : Right part n) where
+module _ (part : List ℕ) (n : ℕ) (short : n ≤ mostRow) (right : Right part n) where
   -- its bits
   abbrev t : List ℕ
   t = rowBits part n
@@ -208,7 +209,7 @@ module _ (part : List ℕ) (start blocks n : ℕ) (f told : ℕ → ℕ) (x : In
   told-le v k count small inside h = go (h .low)
     where
       go : (m ≡ 0) ⊎ (ofValue v (512 * m) (told m) ≤ k) → ofValue v (512 * m) (told m) ≤ k
-      go (inl e) = omega (arith, told-value v m small inside, ap (λ (y : ℕ). rankOf f v (512 * y)) e, ones-zero (holds f v))
+      go (inl e) = omega (arith, told-value v m small inside, ap (λ (y : ℕ). rankOf f v (512 * y)) e, sum-zero (holds f v))
       go (inr l) = l
 
   -- and more than k before its end, where the row has more than k of v
@@ -221,7 +222,7 @@ module _ (part : List ℕ) (start blocks n : ℕ) (f told : ℕ → ℕ) (x : In
 
       go : (m + 1 < (n + 511) / 512) ⊎ ((n + 511) / 512 ≤ m + 1) → ((n + 511) / 512 ≤ m + 1) ⊎ (k < ofValue v (512 * (m + 1)) (told (m + 1)))
           → k < rankOf f v (512 * m + 512)
-      go (inr l) q = let le : n ≤ 512 * m + 512 = omega arith in omega (arith, ones-mono (holds f v) le)
+      go (inr l) q = let le : n ≤ 512 * m + 512 = omega arith in omega (arith, sum-mono (holds f v) le)
       go (inl l) (inl q) = absurd (omega arith)
       go (inl l) (inr q) = omega (arith, told-value v (m + 1) small (omega (arith, x .cover)), ap (rankOf f v) e)
 
@@ -246,7 +247,8 @@ module _ (part : List ℕ) (start blocks n : ℕ) (f told : ℕ → ℕ) (x : In
         let said : ofValue v (512 * m) (told m) ≡ rankOf f v (512 * m) = told-value v m small inside in
         let more : rankOf f v (512 * m + 512) ≡ rankOf f v (512 * m) + rankOf (bitAt block) v 512 =
         rank-part f (bitAt block) (512 * m) 512 v 512 words-cell (le-refl 512) in
-        let there = part-select f (bitAt block) (512 * m) 512 top v k (k - ofValue v (512 * m) (told m)) p words-cell (omega arith) (omega arith) (omega arith) e in
+        let there = part-select f (bitAt block) (512 * m) 512 top v k (k - ofValue v (512 * m) (told m)) p words-cell
+        (omega arith) (omega arith) (omega arith) e in
         let w = select-exists f n v k few in
         let q : 512 * m + p ≡ w .0 = there .1 ∙ ap (placeIn top) (select-longer f n top v k (x .cover) few ∙ w .1) in
         (there .0, omega (arith, select-place f n v k (w .0) (w .1) .below), q ∙ sym (ap (placeIn n) (w .1)))
@@ -257,19 +259,18 @@ pub good-length : (part : List ℕ) (n : ℕ) → goodPart part n ≡ true → n
 unfolding goodPart
 good-length part n h =
     eqb-true n (lengthAt part 0)
-    (and-second (eqb (length part) (sizeOf (lengthAt part 0))) _
-    (and-second (leb (lengthAt part 0) 134217728) _ (and-second (goodLabel (labelAt part 0)) _ (and-second (leb 16 (length part)) _ h))))
+    (and-second (eqb (length part) (sizeOf (lengthAt part 0))) _ (and-second (goodFields part 0) _ (and-second (leb headBytes (length part)) _ h)))
 
 -- and the part has the size of its record
-pub good-part : (part : List ℕ) (n : ℕ) → goodPart part n ≡ true → (16 ≤ length part) × (length part ≡ sizeOf n) × (n ≤ 134217728)
+pub good-part : (part : List ℕ) (n : ℕ) → goodPart part n ≡ true → (headBytes ≤ length part) × (length part ≡ sizeOf n) × (n ≤ mostRow)
 unfolding goodPart
 good-part part n h =
     let e = good-length part n h in
-    let rest = and-second (goodLabel (labelAt part 0)) _ (and-second (leb 16 (length part)) _ h) in
-    let sized = and-second (leb (lengthAt part 0) 134217728) _ rest in (
-      leb-true 16 (length part) (and-first (leb 16 (length part)) _ h),
+    let rest = and-second (leb headBytes (length part)) _ h in
+    let sized = and-second (goodFields part 0) _ rest in (
+      leb-true headBytes (length part) (and-first (leb headBytes (length part)) _ h),
       eqb-true (length part) (sizeOf (lengthAt part 0)) (and-first (eqb (length part) (sizeOf (lengthAt part 0))) _ sized) ∙ ap sizeOf (sym e),
-      omega (arith, leb-true (lengthAt part 0) 134217728 (and-first (leb (lengthAt part 0) 134217728) _ rest)),
+      omega (arith, fields-facts part 0 (and-first (goodFields part 0) _ rest) .2),
     )
 
 -- ---- count, where a call's table passes: x is what the entry and the bits say
@@ -295,7 +296,7 @@ module _ (t : List Line) (part : List ℕ) (n v i x : ℕ) (pass : judge t ≡ n
       AtMost.unfit
 
 -- ---- find, where a call's table passes: x is the number of ones that the record says
-module _ (t : List Line) (part : List ℕ) (n v k x : ℕ) (pass : judge t ≡ none) (small : v ≤ 1) (short : n ≤ 134217728) (said : x ≡ onesAt part 0) where
+module _ (t : List Line) (part : List ℕ) (n v k x : ℕ) (pass : judge t ≡ none) (small : v ≤ 1) (short : n ≤ mostRow) (said : x ≡ onesAt part 0) where
   -- of a right row, that of its bits
   total-is : Right part n → x ≡ ones (bitsOf part n) n
   total-is right = said ∙ right-total part n short right

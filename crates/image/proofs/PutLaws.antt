@@ -72,10 +72,6 @@ digits-le (suc n) v =
 pub num-of : (s : List ℕ) (at n v : ℕ) → ((i : ℕ) → i < n → getD s (at + i) 0 ≡ getD (le n v) i 0) → num s at n ≡ v % 256 ^ n
 num-of s at n v h = digits-ext 256 (λ i. getD s (at + i) 0) (λ i. getD (le n v) i 0) n h ∙ digits-le n v
 
--- the number of the low bytes of v
-pub num-le : (n v : ℕ) → num (le n v) 0 n ≡ v % 256 ^ n
-num-le n v = num-of (le n v) 0 n v (λ i l. ap (λ (k : ℕ). getD (le n v) k 0) (omega arith))
-
 -- one byte more
 num-suc : (s : List ℕ) (at n : ℕ) → num s at (suc n) ≡ getD s at 0 + 256 * num s (suc at) n
 unfolding digits
@@ -97,11 +93,6 @@ drop-num s at (suc n) v b h e =
     drop-cons s at 0 (omega arith)
     ∙ ap₂ (λ (z : ℕ) (l : List ℕ). z ∷ l) low
     (drop-num s (suc at) n (v / 256) b (omega arith) high ∙ ap (λ (j : ℕ). le n (v / 256) ++ drop j s) k)
-
--- the low bytes of the number of n bytes are those bytes
-pub le-num : (s : List ℕ) (at n : ℕ) → ((i : ℕ) → getD s i 0 < 256) → at + n ≤ length s → le n (num s at n) ≡ take n (drop at s)
-le-num s at n b h =
-    sym (ap (take n) (drop-num s at n (num s at n) b h refl) ∙ take-at (le n (num s at n)) (drop (at + n) s) n (length-le n (num s at n)))
 
 -- ---- stores
 -- a concatenation is stored part by part

@@ -11,22 +11,23 @@ use lib.Pow.{pow-mono, shr-lt}
 use lib.ListN.{length, getD, drop, length-drop}
 use lib.Seq.{ext-getD, getD-drop}
 use borrow.Author.Tests.{eqb-true, eqb-false, eq-eqb, not-true, not-false}
-use Rattle.words.specs.Bits.{bit, bitAt, ones, digits}
+use Rattle.words.specs.Bits.{bit, bitAt, ones, same}
 use Rattle.words.specs.Strip.{cell, rank}
-use Rattle.words.proofs.Sums.{lt-or, ones-zero, ones-split, ones-ext, ones-le, ones-none, part-ones}
+use Rattle.words.proofs.Sums.{lt-or, sum-zero, sum-split, ones-le, sum-none, part-ones}
 use Rattle.words.proofs.BitLaws.{zero-bit, bit-shr, bit-high}
 use Rattle.words.proofs.ScanLaws.{some-one}
 use Rattle.words.proofs.DigitLaws.{digits-ext}
 use Rattle.image.specs.Bytes.{num, le, bitFrom}
-use Rattle.image.specs.Layout.{superblockBits, headBytes, entryBytes, superblocksOf, bitsStart, entryOf, entriesFrom, bytesOf, recordOf}
+use Rattle.image.specs.Layout.{superblockBits, headBytes, entryBytes, mostRow, superblocksOf, bitsStart, entryOf, entriesFrom, bytesOf, recordOf}
 use Rattle.image.specs.Chain.{lengthAt, onesAt}
-use Rattle.image.specs.Rows.{rowBits, same, Right, rightPart}
+use Rattle.image.specs.Rows.{rowBits, Right, rightPart}
 use Rattle.image.specs.Calls.{goodPart}
+use Rattle.image.specs.Writing.{BlockCounts, EntryFits, entryFrom, HalvesOf, superblockCells}
 use Rattle.image.specs.Reading.{PaddingZero}
-use Rattle.image.proofs.SameLaws.{same-eq, same-refl}
+use Rattle.words.proofs.SameLaws.{same-eq, same-refl}
 use Rattle.image.proofs.ChainLaws.{decides}
 use Rattle.image.proofs.NumberLaws.{num-halves}
-use Rattle.image.proofs.EntryLaws.{block-ones-lt, entry-made, entry-placed}
+use Rattle.image.proofs.EntryLaws.{counts-fit, entry-made, counts-ext, entry-placed}
 use Rattle.image.proofs.PutLaws.{drop-num}
 use Rattle.image.proofs.WriteLaws.{length-bytes, bytes-at, byte-digits, ones-past, rank-all}
 use Rattle.image.proofs.PartLaws.{row-length, row-cell, row-past, row-le, good-part, good-length, right-total, right-entry, right-bits, bits-from}
@@ -38,7 +39,7 @@ pub record RightFacts (part : List ℕ) (n : ℕ) : Type 0 where
   pub padding : PaddingZero part n
 
 -- a right row has them
-pub right-facts : (part : List ℕ) (n : ℕ) → n ≤ 134217728 → Right part n → RightFacts part n
+pub right-facts : (part : List ℕ) (n : ℕ) → n ≤ mostRow → Right part n → RightFacts part n
 right-facts part n short right =
     let t : List ℕ = rowBits part n in
     let long = row-length part n in
@@ -152,7 +153,7 @@ module _ (s : List ℕ) (start p x : ℕ) (bits : (q : ℕ) → q < 64 → bit x
   pub shifted-some : x < 2 ^ 64 → (x / 2 ^ (p % 64) ≡ 0 → ⊥) → ((q : ℕ) → p ≤ q → q < 64 * (p / 64 + 1) → bitFrom s start q ≡ 0) → ⊥
   shifted-some lt left zeros =
       let y : ℕ = x / 2 ^ (p % 64) in
-      let none : ones (bit y) 64 ≡ 0 = ones-none (bit y) 64 (λ i l. go i (lt-or (p % 64 + i) 64)) in
+      let none : ones (bit y) 64 ≡ 0 = sum-none (bit y) 64 (λ i l. go i (lt-or (p % 64 + i) 64)) in
       let most : 64 ≤ 64 + p % 64 = omega arith in
       omega (arith, none, some-one y (shr-lt 64 (p % 64) (lt-of-lt-of-le lt (pow-mono most))) left)
     where
@@ -173,12 +174,12 @@ block-more s block at j sum q bits before its =
     ∙ ap (ones (bitFrom s at)) e
 
 -- the two halves of a number of 16 bytes are those of v exactly where it is v
-module _ (s : List ℕ) (at low high u w v : ℕ) (first : u ≡ num s at 8) (second : w ≡ num s (at + 8) 8) (is : low + 2 ^ 64 * high ≡ v) where
+module _ (s : List ℕ) (at low high u w v : ℕ) (first : u ≡ num s at 8) (second : w ≡ num s (at + 8) 8) (is : HalvesOf v low high) where
   pub halves-same : u ≡ low → w ≡ high → num s at 16 ≡ v
-  halves-same a b = sym (num-halves s at u w first second) ∙ ap₂ (λ (x y : ℕ). x + 2 ^ 64 * y) a b ∙ is
+  halves-same a b = sym (num-halves s at u w first second) ∙ ap₂ (λ (x y : ℕ). x + 2 ^ 64 * y) a b ∙ is .whole
 
-  pub same-halves : u < 2 ^ 64 → low < 2 ^ 64 → num s at 16 ≡ v → (u ≡ low) × (w ≡ high)
-  same-halves a b e = go u w low high a b (num-halves s at u w first second ∙ e ∙ sym is)
+  pub same-halves : u < 2 ^ 64 → num s at 16 ≡ v → (u ≡ low) × (w ≡ high)
+  same-halves a e = go u w low high a (is .small) (num-halves s at u w first second ∙ e ∙ sym (is .whole))
     where
       go : (x y i j : ℕ) → x < 2 ^ 64 → i < 2 ^ 64 → x + 2 ^ 64 * y ≡ i + 2 ^ 64 * j → (x ≡ i) × (y ≡ j)
       go x y i j l h k = (omega arith, omega arith)
@@ -193,48 +194,57 @@ pub record SuperblocksRead (part : List ℕ) (n e sum : ℕ) : Type 0 where
 -- no entry is inspected yet
 pub read-none : (part : List ℕ) (n : ℕ) → PaddingZero part n → SuperblocksRead part n 0 0
 read-none part n zeros =
-    record { within = omega arith; padding = zeros; entries = (λ i l. absurd (omega arith)); count = sym (ones-zero (cell (rowBits part n))) }
+    record { within = omega arith; padding = zeros; entries = (λ i l. absurd (omega arith)); count = sym (sum-zero (cell (rowBits part n))) }
 
--- superblock e, of which the ones up to the end of each block are counted
-module _ (part : List ℕ) (n e sum : ℕ) (counts : List ℕ) (at : ℕ) (x : SuperblocksRead part n e sum) (inside : e < superblocksOf n)
-    (there : at ≡ bitsStart n + 512 * e) (ends : (j : ℕ) → j < 8 → getD counts j 0 ≡ ones (bitFrom part at) (512 * (j + 1))) where
+-- the same, and the ones of superblock e up to the end of each of its blocks are counted
+pub record SuperblockCounted (part : List ℕ) (n e sum : ℕ) (counts : List ℕ) : Type 0 where
+  pub read : SuperblocksRead part n e sum
+  pub inside : e < superblocksOf n
+  pub counted : BlockCounts (superblockCells (rowBits part n) e) counts
+
+-- those of the part's bits from its place on are those of the row
+pub read-counted : (part : List ℕ) (n e sum : ℕ) (counts : List ℕ) (at : ℕ) → SuperblocksRead part n e sum → e < superblocksOf n → at ≡ bitsStart n + 512 * e
+    → BlockCounts (bitFrom part at) counts → SuperblockCounted part n e sum counts
+read-counted part n e sum counts at x inside there c =
+    record {
+      read = x;
+      inside = inside;
+      counted =
+          counts-ext (bitFrom part at) (superblockCells (rowBits part n) e) counts c
+          (λ p q. bits-from part (bitsStart n) at (512 * e) (4096 * e) p there (omega arith) ∙ padded-bits part n (x .padding) (4096 * e + p) (omega arith));
+    }
+
+module _ (part : List ℕ) (n e sum : ℕ) (counts : List ℕ) (x : SuperblockCounted part n e sum counts) where
   -- the row's bits
   abbrev f : ℕ → ℕ
   f = cell (rowBits part n)
 
-  -- the ones of the row's superblock
-  block-ends : (j : ℕ) → j < 8 → getD counts j 0 ≡ ones (λ p. f (4096 * e + p)) (512 * (j + 1))
-  block-ends j l =
-      ends j l
-      ∙ ones-ext (bitFrom part at) (λ p. f (4096 * e + p)) (512 * (j + 1)) (λ p q.
-      bits-from part (bitsStart n) at (512 * e) (4096 * e) p there (omega arith) ∙ padded-bits part n (x .padding) (4096 * e + p) (omega arith))
-
-  -- the ones before a block fit their 12 bits
-  pub ends-lt : (j : ℕ) → j < 7 → getD counts j 0 < 4096
-  ends-lt j l = omega (arith, block-ends j (omega arith), block-ones-lt (λ p. f (4096 * e + p)) j (λ p. row-le part n (4096 * e + p)) l)
+  -- the counts fit an entry
+  pub read-fit : sum < 2 ^ 44 → EntryFits sum counts
+  read-fit l = counts-fit (superblockCells (rowBits part n) e) counts sum (x .counted) (λ p. row-le part n (4096 * e + p)) l
 
   -- the entry that they make
-  own-entry : sum + 2 ^ 44 * digits (2 ^ 12) (λ j. getD counts j 0) 7 ≡ entryOf f e
-  own-entry = entry-made (λ p. f (4096 * e + p)) (λ j. getD counts j 0) sum (λ j l. block-ends j (omega arith)) ∙ entry-placed f e sum (x .count)
+  own-entry : entryFrom sum counts ≡ entryOf f e
+  own-entry = entry-made (superblockCells (rowBits part n) e) counts sum (x .counted) ∙ entry-placed f e sum (x .read .count)
 
   -- the test of the entry that stands there
-  module _ (t : Bool) (tested : t ≡ eqb (num part (16 + 16 * e) 16) (sum + 2 ^ 44 * digits (2 ^ 12) (λ j. getD counts j 0) 7)) where
+  module _ (t : Bool) (tested : t ≡ eqb (num part (16 + 16 * e) 16) (entryFrom sum counts)) where
     -- it is right
     pub read-more : not t ≡ false → SuperblocksRead part n (e + 1) (sum + getD counts 7 0)
     read-more h =
         let i : 4096 * e + 4096 ≡ 4096 * (e + 1) = omega arith in
         let is : num part (16 + 16 * e) 16 ≡ entryOf f e = eqb-true _ _ (sym tested ∙ not-false t h) ∙ own-entry in
         record {
-          within = omega arith;
-          padding = x .padding;
-          entries = λ j l. ⊎-elim (x .entries j)
+          within = omega (arith, x .inside);
+          padding = x .read .padding;
+          entries = λ j l. ⊎-elim (x .read .entries j)
               (λ q. let s : e ≡ j = omega arith in subst (λ (k : ℕ). num part (16 + 16 * k) 16 ≡ entryOf f k) s is) (lt-or j e);
-          count = omega (arith, x .count, block-ends 7 (lit< tt), ones-split f (4096 * e) 4096, ap (ones f) i);
+          count = omega (arith, x .read .count, x .counted .ends 7 (lit< tt), sum-split f (4096 * e) 4096, ap (ones f) i);
         }
 
     -- it is not: no right row
     pub read-wrong : not t ≡ true → RightFacts part n → ⊥
-    read-wrong h r = eqb-false _ _ (sym tested ∙ not-true t h) (r .entries e inside ∙ sym own-entry)
+    read-wrong h r = eqb-false _ _ (sym tested ∙ not-true t h) (r .entries e (x .inside) ∙ sym own-entry)
 
 -- at most as many ones as bits
 pub read-le : (part : List ℕ) (n e sum : ℕ) → SuperblocksRead part n e sum → sum ≤ 4096 * e

@@ -3,11 +3,10 @@ use mathlib.Core.Path.{_≡_, refl, sym, ap, subst, _∙_}
 use mathlib.Core.Bool.{true}
 use mathlib.Core.List.{List, [], _∷_, _++_}
 use mathlib.Core.Option.{Option, some, none}
-use Prim.Native.Nat.{ℕ, _≤_}
+use Prim.Native.Nat.{ℕ, _+_, _≤_}
 use native.Mathlib.Omega.{arith}
 use lib.ListN.{length, drop, length-drop}
 use lib.Seq.{length-take-le}
-use lib.Dec.{leb}
 use borrow.Author.Tests.{le-leb, eq-eqb}
 use Rattle.words.specs.Strip.{cell, rank, select, orElse}
 use Rattle.words.specs.declared.refusal.Refusal.{Refusal}
@@ -19,12 +18,12 @@ use Rattle.words.specs.Calls.{valueLine, belowLine, withinLine, absentLine}
 use Rattle.words.proofs.CheckLaws.{judge-append}
 use Rattle.counters.specs.Promises.{Promise, AtMost, Below}
 use Rattle.counters.proofs.PromiseLaws.{promise-refused}
-use Rattle.image.specs.Layout.{unitBytes, mostLabel, mostRow, sizeOf}
+use Rattle.image.specs.Layout.{headBytes, sizeOf}
 use Rattle.image.specs.Chain.{labelAt, lengthAt, endAt}
 use Rattle.image.specs.Rows.{partAt, rowBits, Right}
-use Rattle.image.specs.Calls.{openTable, openTold, goodPart, partLine, partGetTold, PartRanked, PartSelected, rowPart, rowLength, rowGetTold, RowRanked, RowSelected}
+use Rattle.image.specs.Calls.{openTable, openTold, goodPart, partLine, partGetTold, PartRanked, PartSelected, rowPlace, rowPart, rowLength, rowGetTold, RowRanked, RowSelected}
 use Rattle.image.proofs.NumberLaws.{num-taken}
-use Rattle.image.proofs.ChainLaws.{RecordFacts, opened, opened-value, opened-refused}
+use Rattle.image.proofs.ChainLaws.{RecordFacts, fields-good, opened, opened-value, opened-refused}
 
 -- ---- the part that a record takes
 -- its size
@@ -43,7 +42,11 @@ module _ (s : List ℕ) (at : ℕ) (f : RecordFacts s at) where
   pub part-length : lengthAt (partAt s at) 0 ≡ lengthAt s at
   part-length = num-taken s at (sizeOf (lengthAt s at)) 8 4 (omega arith)
 
-  -- so is the length that is read from it
+  -- it has room for a record's numbers
+  pub part-room : (part : List ℕ) → part ≡ partAt s at → headBytes ≤ length part
+  part-room part p = omega (arith, ap length p, part-long)
+
+  -- the length that is read from it is the record's too
   pub part-held : (part : List ℕ) (n : ℕ) → part ≡ partAt s at → n ≡ lengthAt part 0 → n ≡ lengthAt s at
   part-held part n p l = l ∙ ap (λ (q : List ℕ). lengthAt q 0) p ∙ part-length
 
@@ -52,10 +55,8 @@ module _ (s : List ℕ) (at : ℕ) (f : RecordFacts s at) where
   unfolding goodPart
   part-good =
       simp (
-        le-leb unitBytes (length (partAt s at)) (omega (arith, part-long)),
-        ap (leb 1) part-label ∙ le-leb 1 (labelAt s at) (f .low),
-        le-leb (labelAt (partAt s at) 0) mostLabel (omega (arith, part-label, f .high)),
-        le-leb (lengthAt (partAt s at) 0) mostRow (omega (arith, part-length, f .short)),
+        le-leb headBytes (length (partAt s at)) (omega (arith, part-long)),
+        fields-good (partAt s at) 0 (omega (arith, part-label, f .low)) (omega (arith, part-label, f .high)) (omega (arith, part-length, f .short)),
         eq-eqb (length (partAt s at)) (sizeOf (lengthAt (partAt s at) 0)) (part-long ∙ ap sizeOf (sym part-length)),
         eq-eqb (lengthAt s at) (lengthAt (partAt s at) 0) (sym part-length),
       )
@@ -100,19 +101,30 @@ pub record RowHeld (s : List ℕ) (label : ℕ) (part : List ℕ) (n : ℕ) : Ty
   pub long : n ≡ rowLength s label
   pub good : goodPart (rowPart s label) (rowLength s label) ≡ true
 
--- the part at the place that the opening gave, and the length that it holds
-pub row-held : (s : List ℕ) (label : ℕ) (o : Answer) (at : ℕ) (part : List ℕ) (n : ℕ) → toldOf o ≡ openTold s label → o ≡ Value at
-    → part ≡ partAt s at → n ≡ lengthAt part 0 → RowHeld s label part n
-row-held s label o at part n e d p l =
-    let k = opened-value s label o at e d in
-    let f = opened s label (k .0) .placed .facts in
-    let its : part ≡ rowPart s label = p ∙ ap (partAt s) (k .1) in
-    record {
-      passed = k .0;
-      its = its;
-      long = part-held s _ f part n its l;
-      good = part-good s _ f;
-    }
+-- the place that an opening gave
+module _ (s : List ℕ) (label : ℕ) (o : Answer) (at : ℕ) (told : toldOf o ≡ openTold s label) (place : o ≡ Value at) where
+  -- the table passes, and it is the row's
+  its-place : (judge (openTable s label) ≡ none) × (at ≡ rowPlace s label)
+  its-place = opened-value s label o at told place
+
+  -- its record
+  its-record : RecordFacts s at
+  its-record = subst (RecordFacts s) (sym (its-place .1)) (opened s label (its-place .0) .placed .facts)
+
+  -- lies inside the image
+  pub row-inside : (at + headBytes ≤ length s) × (endAt s at ≤ length s)
+  row-inside = (its-record .room, its-record .inside)
+
+  -- the part that is taken there has room for a record's numbers
+  pub row-room : (part : List ℕ) → part ≡ partAt s at → headBytes ≤ length part
+  row-room = part-room s at its-record
+
+  -- that part and the length that it holds are the row's
+  pub row-held : (part : List ℕ) (n : ℕ) → part ≡ partAt s at → n ≡ lengthAt part 0 → RowHeld s label part n
+  row-held part n p l =
+      let f = opened s label (its-place .0) .placed .facts in
+      let its : part ≡ rowPart s label = p ∙ ap (partAt s) (its-place .1) in
+      record { passed = its-place .0; its = its; long = part-held s _ f part n its l; good = part-good s _ f }
 
 -- what a call tells of that part and length, it tells of the row
 row-told : {s : List ℕ} {label : ℕ} {part : List ℕ} {n : ℕ} → RowHeld s label part n → (T : List ℕ → ℕ → Option ℕ → Type 0) (rest : ℕ → List Line)

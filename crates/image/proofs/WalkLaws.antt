@@ -1,9 +1,9 @@
 -- The walk of a chain: what holds at the head of its loop, and how it goes on. Assumes nothing.
 use mathlib.Core.Path.{_≡_, refl, sym, ap, _∙_}
-use mathlib.Core.Bool.{Bool, true, false, cond, _||_}
+use mathlib.Core.Bool.{Bool, true, false, cond, not, _&&_, _||_}
 use mathlib.Core.List.{List, [], _∷_, _++_, append-nil}
 use mathlib.Core.Option.{Option, some, none}
-use Prim.Native.Nat.{ℕ, zero, suc, _+_, _-_, _*_, _<_, _≤_}
+use Prim.Native.Nat.{ℕ, zero, suc, _+_, _-_, _*_, _<_}
 use native.Mathlib.Omega.{arith}
 use lib.ListN.{length, getD, set, replicate, length-replicate, getD-replicate, length-set}
 use lib.Seq.{getD-set-same, getD-set-other, append-snoc}
@@ -14,10 +14,11 @@ use Rattle.words.specs.Words.{placeIn}
 use Rattle.image.specs.declared.chain.Scan.the-variants.{Unsound, Sound}
 use Rattle.image.specs.Bytes.{num}
 use Rattle.image.specs.Layout.{unitBytes, mostLabel}
-use Rattle.image.specs.Chain.{nextAt, labelAt, endAt, soundHeader, soundRecord, among, inFront, chainOf, placeOf, endOf, linkOf}
+use Rattle.image.specs.Chain.{nextAt, labelAt, endAt, soundHeader, soundRecord, among, inFront, chainOf, placeOf, chainEnd, linkOf}
 use Rattle.image.specs.Calls.{recordsIn, recordsOf, recordWith, rowPlace}
 use Rattle.image.specs.Walk.{scanned, scanOf}
-use Rattle.image.proofs.ChainLaws.{record-facts, restFrom, rest-end, rest-unsound, rest-more, chain-rest, among-first, among-rest, place-append, link-last, end-last, chain-facts, place-found, found-placed}
+use Rattle.image.proofs.ChainLaws.{no-confusion, header-sound, RecordFacts, record-facts, none-some, not-stopped, restFrom, rest-end, rest-unsound, rest-more, chain-rest, among-first, among-rest}
+use Rattle.image.proofs.ChainLaws.{place-append, link-last, end-last, chain-facts, place-found, found-placed}
 
 -- the records walked, and then others
 abbrev pub onto : List ℕ → Option (List ℕ) → Option (List ℕ)
@@ -34,46 +35,101 @@ onto-more : (past : List ℕ) (a : ℕ) (o : Option (List ℕ)) → onto (past +
 onto-more past a none = refl
 onto-more past a (some bs) = ap some (append-snoc past a bs)
 
--- a walk that stands at byte `at` after the records `past`, with a flag for each label met
-pub record Walked (s : List ℕ) (at : ℕ) (flags : List Bool) (past : List ℕ) : Type 0 where
+-- others after the records walked make a whole chain
+onto-some : (past : List ℕ) (o : Option (List ℕ)) (rs : List ℕ) → onto past o ≡ some rs → (rest : List ℕ) × (o ≡ some rest) × (past ++ rest ≡ rs)
+onto-some past none rs e = none-some refl e
+onto-some past (some bs) rs e = (bs, refl, cc)
+
+-- ---- the walk of any chain
+-- a walk that stands at byte `at` after the records `past`, whose labels are `met`
+pub record Walked (s : List ℕ) (at : ℕ) (met past : List ℕ) : Type 0 where
   pub steps : ℕ
-  pub met : List ℕ
-  pub flagged : length flags ≡ mostLabel + 1
-  pub marks : (k : ℕ) → k < mostLabel + 1 → getD flags k false ≡ among k met
   pub enough : (at ≡ 0 → ⊥) → length s < at + steps
-  pub absent : (l : ℕ) → among l met ≡ false → placeOf s l past ≡ none
   pub same : onto past (restFrom steps s at met) ≡ chainOf s
 
 -- where it starts
-pub walked-none : (s : List ℕ) → soundHeader s ≡ true → Walked s (unitBytes * num s 0 4) (replicate (mostLabel + 1) false) []
-unfolding among placeOf
-walked-none s h =
-    record {
-      steps = length s;
-      met = [];
-      flagged = length-replicate (mostLabel + 1) false;
-      marks = λ k l. getD-replicate (mostLabel + 1) k false false l;
-      enough = λ n. omega arith;
-      absent = λ l e. refl;
-      same = onto-none _ ∙ sym (chain-rest s h);
-    }
+walked-none : (s : List ℕ) → soundHeader s ≡ true → Walked s (unitBytes * num s 0 4) [] []
+walked-none s h = record { steps = length s; enough = λ n. omega arith; same = onto-none _ ∙ sym (chain-rest s h) }
 
--- it stops at a record that is not sound
-pub walked-unsound : {s : List ℕ} {at : ℕ} {flags : List Bool} {past : List ℕ} → Walked s at flags past → (at ≡ 0 → ⊥) → soundRecord s at ≡ false
+-- it stops at a record that is not sound, or whose label was met
+walked-stops : {s : List ℕ} {at : ℕ} {met past : List ℕ} → Walked s at met past → (at ≡ 0 → ⊥) → (soundRecord s at && not (among (labelAt s at) met)) ≡ false
     → chainOf s ≡ none
-walked-unsound {s} {at} {flags} {past} w n h = sym (w .same) ∙ ap (onto past) (rest-unsound (w .steps) s at (w .met) n (simp h))
+walked-stops {s} {at} {met} {past} w n h = sym (w .same) ∙ ap (onto past) (rest-unsound (w .steps) s at met n h)
 
--- and at a label met again
-pub walked-again : {s : List ℕ} {at : ℕ} {flags : List Bool} {past : List ℕ} → Walked s at flags past → (at ≡ 0 → ⊥) → soundRecord s at ≡ true
-    → getD flags (labelAt s at) false ≡ true → chainOf s ≡ none
-walked-again {s} {at} {flags} {past} w n h m =
-    let f = record-facts s at h in
-    let i : among (labelAt s at) (w .met) ≡ true = sym (w .marks (labelAt s at) (omega (arith, f .high))) ∙ m in
-    sym (w .same) ∙ ap (onto past) (rest-unsound (w .steps) s at (w .met) n (simp (h, i)))
+-- a turn
+walked-more : {s : List ℕ} {at : ℕ} {met past : List ℕ} → Walked s at met past → (at ≡ 0 → ⊥) → soundRecord s at ≡ true → among (labelAt s at) met ≡ false
+    → Walked s (unitBytes * nextAt s at) (labelAt s at ∷ met) (past ++ (at ∷ []))
+walked-more {s} {at} {met} {past} w n h m = go (w .steps) refl
+  where
+    go : (steps : ℕ) → w .steps ≡ steps → Walked s (unitBytes * nextAt s at) (labelAt s at ∷ met) (past ++ (at ∷ []))
+    go zero q = absurd (omega (arith, w .enough n, record-facts s at h .room))
+    go (suc steps) q =
+        record {
+          steps = steps;
+          enough = λ z. omega (arith, w .enough n, record-facts s at h .ahead (λ y. z (omega arith)));
+          same =
+              onto-more past at (restFrom steps s (unitBytes * nextAt s at) (labelAt s at ∷ met))
+              ∙ ap (onto past) (sym (rest-more steps s at met n h m) ∙ ap (λ (k : ℕ). restFrom k s at met) (sym q))
+              ∙ w .same;
+        }
 
 -- where it ends
-pub walked-done : {s : List ℕ} {at : ℕ} {flags : List Bool} {past : List ℕ} → Walked s at flags past → at ≡ 0 → chainOf s ≡ some past
-walked-done {s} {at} {flags} {past} w z = sym (w .same) ∙ ap (onto past) (rest-end (w .steps) s at (w .met) z) ∙ ap some (append-nil past)
+walked-done : {s : List ℕ} {at : ℕ} {met past : List ℕ} → Walked s at met past → at ≡ 0 → chainOf s ≡ some past
+walked-done {s} {at} {met} {past} w z = sym (w .same) ∙ ap (onto past) (rest-end (w .steps) s at met z) ∙ ap some (append-nil past)
+
+-- what is left to walk
+unfoldable pub left : ℕ → ℕ → ℕ
+left n at = cond (eqb at 0) 0 (suc (n - at))
+
+-- a turn leaves less
+pub left-less : (s : List ℕ) (at : ℕ) → (at ≡ 0 → ⊥) → RecordFacts s at → left (length s) (unitBytes * nextAt s at) < left (length s) at
+unfolding left
+left-less s at n f = simp (ne-eqb at 0 n) (go (eqb (unitBytes * nextAt s at) 0) refl)
+  where
+    go : (t : Bool) → eqb (unitBytes * nextAt s at) 0 ≡ t → cond t 0 (suc (length s - unitBytes * nextAt s at)) < suc (length s - at)
+    go true p = omega arith
+    go false p = omega (arith, f .room, f .ahead (λ z. eqb-false (unitBytes * nextAt s at) 0 p (omega arith)))
+
+-- ---- the walk of a sound chain
+-- one that stands at byte `at` after the records `past`
+pub record SoundWalk (s : List ℕ) (at : ℕ) (past : List ℕ) : Type 0 where
+  pub met : List ℕ
+  pub walked : Walked s at met past
+  pub chain : chainOf s ≡ some (recordsOf s)
+
+-- where it starts
+pub walk-none : (s : List ℕ) → chainOf s ≡ some (recordsOf s) → SoundWalk s (unitBytes * num s 0 4) []
+walk-none s e = record { met = []; walked = walked-none s (header-sound s (chain-facts s (recordsOf s) e .header)); chain = e }
+
+-- where it has not ended it stands at a sound record, and goes on
+pub record Turn (s : List ℕ) (at : ℕ) (past : List ℕ) : Type 0 where
+  pub facts : RecordFacts s at
+  pub more : SoundWalk s (unitBytes * nextAt s at) (past ++ (at ∷ []))
+  pub rest : List ℕ
+  pub whole : past ++ (at ∷ rest) ≡ recordsOf s
+
+pub walk-turn : {s : List ℕ} {at : ℕ} {past : List ℕ} → SoundWalk s at past → (at ≡ 0 → ⊥) → Turn s at past
+walk-turn {s} {at} {past} w n =
+    let here = onto-some past (restFrom (w .walked .steps) s at (w .met)) (recordsOf s) (w .walked .same ∙ w .chain) in
+    let q = not-stopped (w .walked .steps) s at (w .met) (here .0) (here .1) n in
+    let more = walked-more (w .walked) n (q .0) (q .1) in
+    let next : ℕ = unitBytes * nextAt s at in
+    let later = onto-some (past ++ (at ∷ [])) (restFrom (more .steps) s next (labelAt s at ∷ w .met)) (recordsOf s) (more .same ∙ w .chain) in
+    record {
+      facts = record-facts s at (q .0);
+      more = record { met = labelAt s at ∷ w .met; walked = more; chain = w .chain };
+      rest = later .0;
+      whole = sym (append-snoc past at (later .0)) ∙ later .2;
+    }
+
+-- where it ends it has met every record
+pub walk-done : {s : List ℕ} {at : ℕ} {past : List ℕ} → SoundWalk s at past → at ≡ 0 → past ≡ recordsOf s
+walk-done w z = ap recordsIn (sym (walked-done (w .walked) z))
+
+-- ---- the scan
+-- what a scan tells where the chain is not sound
+pub scan-unsound : (s : List ℕ) (label : ℕ) → chainOf s ≡ none → Unsound ≡ scanOf s label
+scan-unsound s label e = simp e
 
 -- one label more
 mark-more : (flags : List Bool) (met : List ℕ) (l : ℕ) → length flags ≡ mostLabel + 1 → l < mostLabel + 1
@@ -96,66 +152,33 @@ absent-more s past met a h l e =
     let n : eqb (labelAt s a) l ≡ false = ne-eqb _ _ (λ z. among-first l (labelAt s a) met e (sym z)) in
     place-append s l past (a ∷ []) ∙ simp (h l (among-rest l (labelAt s a) met e), n)
 
--- a turn
-walked-on : (s : List ℕ) (at : ℕ) (flags : List Bool) (past : List ℕ) (w : Walked s at flags past) (steps : ℕ) → w .steps ≡ steps → (at ≡ 0 → ⊥) → soundRecord s at ≡ true
-    → getD flags (labelAt s at) false ≡ false → Walked s (unitBytes * nextAt s at) (set flags (labelAt s at) true) (past ++ (at ∷ []))
-walked-on s at flags past w zero q n h m = absurd (omega (arith, w .enough n, record-facts s at h .room))
-walked-on s at flags past w (suc steps) q n h m =
-    let f = record-facts s at h in
-    let i : labelAt s at < mostLabel + 1 = omega (arith, f .high) in
-    record {
-      steps = steps;
-      met = labelAt s at ∷ w .met;
-      flagged = length-set flags (labelAt s at) true ∙ w .flagged;
-      marks = mark-more flags (w .met) (labelAt s at) (w .flagged) i (w .marks);
-      enough = λ m. omega (arith, w .enough n, f .ahead (λ z. m (omega arith)));
-      absent = absent-more s past (w .met) at (w .absent);
-      same =
-          onto-more past at (restFrom steps s (unitBytes * nextAt s at) (labelAt s at ∷ w .met))
-          ∙ ap (onto past) (sym (rest-more steps s at (w .met) n h (sym (w .marks (labelAt s at) i) ∙ m)) ∙ ap (λ (k : ℕ). restFrom k s at (w .met)) (sym q))
-          ∙ w .same;
-    }
-
--- the same in the terms of what the code has read
-pub walked-more : {s : List ℕ} {at : ℕ} {flags : List Bool} {past : List ℕ} → Walked s at flags past → (at ≡ 0 → ⊥) → soundRecord s at ≡ true
-    → (next here : ℕ) → next ≡ nextAt s at → here ≡ labelAt s at → getD flags here false ≡ false
-    → Walked s (unitBytes * next) (set flags here true) (past ++ (at ∷ []))
-walked-more {s} {at} {flags} {past} w n h next here p q m =
-    let u : getD flags (labelAt s at) false ≡ false = ap (λ (k : ℕ). getD flags k false) (sym q) ∙ m in
-    simp (p, q) (walked-on s at flags past w (w .steps) refl n h u)
-
--- a label not flagged has no record among those walked
-pub walked-absent : {s : List ℕ} {at : ℕ} {flags : List Bool} {past : List ℕ} → Walked s at flags past → (l : ℕ) → l ≤ mostLabel
-    → getD flags l false ≡ false → placeOf s l past ≡ none
-walked-absent w l h m = w .absent l (sym (w .marks l (omega arith)) ∙ m)
-
--- what is left to walk
-unfoldable pub left : ℕ → ℕ → ℕ
-left n at = cond (eqb at 0) 0 (suc (n - at))
-
--- a turn leaves less
-pub left-less : (s : List ℕ) (at : ℕ) → (at ≡ 0 → ⊥) → soundRecord s at ≡ true → left (length s) (unitBytes * nextAt s at) < left (length s) at
-unfolding left
-left-less s at n h = simp (ne-eqb at 0 n) (go (eqb (unitBytes * nextAt s at) 0) refl)
-  where
-    go : (t : Bool) → eqb (unitBytes * nextAt s at) 0 ≡ t → cond t 0 (suc (length s - unitBytes * nextAt s at)) < suc (length s - at)
-    go true p = omega arith
-    go false p =
-        let f = record-facts s at h in
-        omega (arith, f .room, f .ahead (λ z. eqb-false (unitBytes * nextAt s at) 0 p (omega arith)))
-
--- the same with what the walk tells of the records walked
+-- a walk with a flag for each label met, and what it tells of the records walked
 pub record Scanned (s : List ℕ) (label at : ℕ) (flags : List Bool) (link end found : ℕ) : Type 0 where
   pub past : List ℕ
-  pub walked : Walked s at flags past
+  pub met : List ℕ
+  pub walked : Walked s at met past
+  pub flagged : length flags ≡ mostLabel + 1
+  pub marks : (k : ℕ) → k < mostLabel + 1 → getD flags k false ≡ among k met
+  pub absent : (l : ℕ) → among l met ≡ false → placeOf s l past ≡ none
   pub linked : link ≡ linkOf past
-  pub ended : end ≡ endOf s past
+  pub ended : end ≡ chainEnd s past
   pub placed : found ≡ placeIn 0 (placeOf s label past)
 
--- where the scan starts
+-- where it starts
 pub scanned-none : (s : List ℕ) (label : ℕ) → soundHeader s ≡ true → Scanned s label (unitBytes * num s 0 4) (replicate (mostLabel + 1) false) 0 unitBytes 0
-unfolding linkOf endOf placeOf
-scanned-none s label h = record { past = []; walked = walked-none s h; linked = refl; ended = refl; placed = refl }
+unfolding linkOf chainEnd placeOf among
+scanned-none s label h =
+    record {
+      past = [];
+      met = [];
+      walked = walked-none s h;
+      flagged = length-replicate (mostLabel + 1) false;
+      marks = λ k l. getD-replicate (mostLabel + 1) k false false l;
+      absent = λ l e. refl;
+      linked = refl;
+      ended = refl;
+      placed = refl;
+    }
 
 -- the label's record, with one record more
 placed-more : (s : List ℕ) (label at : ℕ) (past : List ℕ) (found : ℕ) → found ≡ placeIn 0 (placeOf s label past)
@@ -172,28 +195,44 @@ placed-more s label at past found e h = go (eqb (labelAt s at) label) refl ∙ a
     go true p = simp (p, h (eqb-true _ _ p))
     go false p = simp (p, or-none) e
 
--- a turn, in the terms of what the code has read
-pub scanned-more : {s : List ℕ} {label at : ℕ} {flags : List Bool} {link end found : ℕ} → Scanned s label at flags link end found → (at ≡ 0 → ⊥)
-    → soundRecord s at ≡ true → (next here last spot : ℕ) → next ≡ nextAt s at → here ≡ labelAt s at → last ≡ endAt s at → getD flags here false ≡ false
-    → spot ≡ cond (eqb here label) at found → Scanned s label (unitBytes * next) (set flags here true) at last spot
-scanned-more {s} {label} {at} {flags} {link} {end} {found} w n h next here last spot p q e m f =
-    let i : here ≤ mostLabel = omega (arith, record-facts s at h .high) in
-    record {
-      past = w .past ++ (at ∷ []);
-      walked = walked-more (w .walked) n h next here p q m;
-      linked = sym (link-last (w .past) at);
-      ended = e ∙ sym (end-last s (w .past) at);
-      placed =
-          f
-          ∙ ap (λ (l : ℕ). cond (eqb l label) at found) q
-          ∙ placed-more s label at (w .past) found (w .placed) (λ z. rw (← z, ← q) (walked-absent (w .walked) here i m));
-    }
+-- a scan that stands at byte `at`, not at the end
+module _ {s : List ℕ} {label at : ℕ} {flags : List Bool} {link end found : ℕ} (w : Scanned s label at flags link end found) (n : at ≡ 0 → ⊥) where
+  -- at a record that is not sound
+  pub scanned-unsound : soundRecord s at ≡ false → Unsound ≡ scanOf s label
+  scanned-unsound h = scan-unsound s label (walked-stops (w .walked) n (simp h))
 
--- what the scan tells where the chain is not sound
-pub scan-unsound : (s : List ℕ) (label : ℕ) → chainOf s ≡ none → Unsound ≡ scanOf s label
-scan-unsound s label e = simp e
+  -- at a sound one whose label, as the code has read it, has a flag or none
+  module _ (h : soundRecord s at ≡ true) (here : ℕ) (q : here ≡ labelAt s at) where
+    -- whether the label was met
+    met-is : getD flags here false ≡ among (labelAt s at) (w .met)
+    met-is = ap (λ (k : ℕ). getD flags k false) q ∙ w .marks (labelAt s at) (omega (arith, record-facts s at h .high))
 
--- and where the walk ends
+    pub scanned-again : getD flags here false ≡ true → Unsound ≡ scanOf s label
+    scanned-again m = let i = sym met-is ∙ m in scan-unsound s label (walked-stops (w .walked) n (simp (h, i)))
+
+    -- a turn
+    pub scanned-more : (next last spot : ℕ) → next ≡ unitBytes * nextAt s at → last ≡ endAt s at → getD flags here false ≡ false
+        → spot ≡ cond (eqb here label) at found → Scanned s label next (set flags here true) at last spot
+    scanned-more next last spot p e m f =
+        let i : labelAt s at < mostLabel + 1 = omega (arith, record-facts s at h .high) in
+        let u : among (labelAt s at) (w .met) ≡ false = sym met-is ∙ m in
+        rw (p, q)
+        (record {
+          past = w .past ++ (at ∷ []);
+          met = labelAt s at ∷ w .met;
+          walked = walked-more (w .walked) n h u;
+          flagged = length-set flags (labelAt s at) true ∙ w .flagged;
+          marks = mark-more flags (w .met) (labelAt s at) (w .flagged) i (w .marks);
+          absent = absent-more s (w .past) (w .met) at (w .absent);
+          linked = sym (link-last (w .past) at);
+          ended = e ∙ sym (end-last s (w .past) at);
+          placed =
+              f
+              ∙ ap (λ (l : ℕ). cond (eqb l label) at found) q
+              ∙ placed-more s label at (w .past) found (w .placed) (λ z. rw (← z) (w .absent (labelAt s at) u));
+        })
+
+-- where it ends
 pub scanned-done : {s : List ℕ} {label at : ℕ} {flags : List Bool} {link end found : ℕ} → Scanned s label at flags link end found → at ≡ 0
     → Sound link end found ≡ scanOf s label
 scanned-done {s} {label} w z = simp (walked-done (w .walked) z, w .linked, w .ended, w .placed)
@@ -202,7 +241,7 @@ scanned-done {s} {label} w z = simp (walked-done (w .walked) z, w .linked, w .en
 pub record ScanFacts (s : List ℕ) (label link end found : ℕ) : Type 0 where
   pub chain : chainOf s ≡ some (recordsOf s)
   pub linked : link ≡ linkOf (recordsOf s)
-  pub ended : end ≡ endOf s (recordsOf s)
+  pub ended : end ≡ chainEnd s (recordsOf s)
   pub placed : found ≡ rowPlace s label
 
 -- a scan that is told sound
@@ -210,7 +249,7 @@ pub scan-facts : (s : List ℕ) (label link end found : ℕ) → Sound link end 
 scan-facts s label link end found e = go (chainOf s) refl e
   where
     go : (o : Option (List ℕ)) → chainOf s ≡ o → Sound link end found ≡ scanned s label o → ScanFacts s label link end found
-    go none p q = let z : _≡_ {A = ℕ} 0 1 = cc in absurd (omega arith)
+    go none p q = no-confusion cc
     go (some rs) p q =
         let r : recordsOf s ≡ rs = ap recordsIn p in
         record {
@@ -226,7 +265,7 @@ scan-none s label e = go (chainOf s) refl e
   where
     go : (o : Option (List ℕ)) → chainOf s ≡ o → Unsound ≡ scanned s label o → chainOf s ≡ none
     go none p q = p
-    go (some rs) p q = let z : _≡_ {A = ℕ} 0 1 = cc in absurd (omega arith)
+    go (some rs) p q = no-confusion cc
 
 -- a record never starts at byte 0: the place 0 says that no record has the label
 pub scan-absent : {s : List ℕ} {label link end found : ℕ} → ScanFacts s label link end found → found ≡ 0 → recordWith s label ≡ none

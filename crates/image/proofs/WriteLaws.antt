@@ -9,22 +9,23 @@ use lib.Arith as A
 use lib.Bits.{bitAnd, and-mask}
 use lib.Dec.{lit<}
 use lib.Pow.{pow-pos}
-use lib.ListN.{length, set, drop, getD, length-set, length-append, List·getD-append, List·getD-eq-default}
+use lib.ListN.{length, set, drop, getD, length-append, List·getD-append, List·getD-eq-default}
 use lib.Seq.{sets, length-sets, ext-getD, getD-set-same, getD-set-other, drop-drop, drop-append-seam, getD-drop}
 use Rattle.words.specs.Bits.{bit, bitAt, ones, digits, listOf}
 use Rattle.words.specs.Strip.{cell, stripOf, rank, rankOf}
-use Rattle.words.proofs.Sums.{lt-or, ones-zero, ones-split, ones-ext, ones-le, length-listOf, getD-listOf, ones-const, set-more}
+use Rattle.words.proofs.Sums.{lt-or, sum-zero, sum-split, sum-ext, ones-le, length-listOf, getD-listOf, sum-const}
 use Rattle.words.proofs.BitLaws.{bit-shr, bit-mod, bit-high}
 use Rattle.words.proofs.WordLaws.{word-bit, bitAt-le}
 use Rattle.words.proofs.DigitLaws.{field, digits-ext, digits-at, digits-of}
 use Rattle.words.proofs.SearchLaws.{rank-ones}
 use Rattle.words.proofs.StripLaws.{strip-cell}
+use Rattle.image.specs.declared.write.Target.{Target}
 use Rattle.image.specs.Bytes.{num, le, bitFrom}
-use Rattle.image.specs.Layout.{superblocksOf, bitsStart, sizeOf, superblockEntry, entryOf, entriesFrom, bytesOf, recordOf, kind}
+use Rattle.image.specs.Layout.{mostRow, superblocksOf, bitsStart, sizeOf, superblockEntry, entryOf, entriesFrom, bytesOf, recordOf, kind}
 use Rattle.image.specs.Rows.{rowBits, Right}
 use Rattle.image.specs.Chain.{headerOf}
-use Rattle.image.specs.Writing.{wordBits, BitsPut, SuperblockPut, RowPut}
-use Rattle.image.proofs.EntryLaws.{block-ones-lt, entry-made, entry-placed}
+use Rattle.image.specs.Writing.{BlockCounts, entryFrom, HalvesOf, wordBits, BitsPut, CountedPut, SuperblockPut, RowPut}
+use Rattle.image.proofs.EntryLaws.{block-ones-lt, entry-made, entry-ext, entry-placed, Counting, counting-none, counting-more, counting-done}
 use Rattle.image.proofs.PutLaws.{length-le, le-small, num-of, sets-join, sets-comm, sets-front, put-join}
 
 -- ---- lists by their elements
@@ -114,7 +115,8 @@ bytes-bit f n p h l =
 -- each is a byte
 pub bytes-small : (f : ℕ → ℕ) (n i : ℕ) → ((q : ℕ) → f q ≤ 1) → getD (bytesOf f n) i 0 < 256
 bytes-small f n i h =
-    listOf-all (λ x. x < 256) (λ b. digits 2 (λ j. f (8 * b + j)) 8) n (λ b. digits-lt 2 (λ j. f (8 * b + j)) 8 (λ j k. omega (arith, h (8 * b + j)))) (lit< tt) i
+    listOf-all (λ x. x < 256) (λ b. digits 2 (λ j. f (8 * b + j)) 8) n
+    (λ b. digits-lt 2 (λ j. f (8 * b + j)) 8 (λ j k. omega (arith, h (8 * b + j)))) (lit< tt) i
 
 -- the low bytes of a number are the bytes of its bits
 pub le-bytes : (n x : ℕ) (f : ℕ → ℕ) → ((p : ℕ) → p < 8 * n → bit x p ≡ f p) → le n x ≡ bytesOf f n
@@ -229,8 +231,8 @@ ones-past t m h =
     let n : ℕ = length t in
     let e : n + (m - n) ≡ m = omega arith in
     let z : ones (λ p. cell t (n + p)) (m - n) ≡ (m - n) * 0 =
-    ones-const (λ p. cell t (n + p)) 0 (m - n) (λ p l. List·getD-eq-default t 0 {n = n + p} (omega arith)) in
-    omega (arith, ap (ones (cell t)) e, ones-split (cell t) n (m - n), z)
+    sum-const (λ p. cell t (n + p)) 0 (m - n) (λ p l. List·getD-eq-default t 0 {n = n + p} (omega arith)) in
+    omega (arith, ap (ones (cell t)) e, sum-split (cell t) n (m - n), z)
 
 -- its rank of 1
 pub rank-all : (t : List ℕ) → ((p : ℕ) → cell t p ≤ 1) → rank t 1 (length t) ≡ ones (cell t) (length t)
@@ -317,17 +319,17 @@ module _ (x l : ℕ) (t : List ℕ) where
   record-ones = piece-num r (es ++ bs) 12 4 total from-12
 
   -- the third, of a row that is not too long
-  pub record-long : length t ≤ 134217728 → num r 8 4 ≡ length t
+  pub record-long : length t ≤ mostRow → num r 8 4 ≡ length t
   record-long h = record-size ∙ mod-eq-of-lt (omega arith)
 
   -- those of a list of bits
   module _ (bits : (p : ℕ) → cell t p ≤ 1) where
     -- the fourth, likewise
-    pub record-total : length t ≤ 134217728 → num r 12 4 ≡ rank t 1 (length t)
+    pub record-total : length t ≤ mostRow → num r 12 4 ≡ rank t 1 (length t)
     record-total h = record-ones ∙ mod-eq-of-lt (omega (arith, rank-all t bits, ones-le (cell t) (length t) bits))
 
     -- entry e
-    pub record-entry : (e : ℕ) → length t ≤ 134217728 → e < superblocksOf (length t) → num r (16 + 16 * e) 16 ≡ entryOf (cell t) e
+    pub record-entry : (e : ℕ) → length t ≤ mostRow → e < superblocksOf (length t) → num r (16 + 16 * e) 16 ≡ entryOf (cell t) e
     record-entry e h k =
         piece-entry r bs 16 (cell t) (superblocksOf (length t)) e from-16 k ∙ mod-eq-of-lt (entry-lt (cell t) e bits (omega arith))
 
@@ -408,7 +410,7 @@ module _ (g : ℕ → ℕ) (at : ℕ) (s : List ℕ) where
   -- nothing is stored yet
   pub bits-none : BitsPut g 0 at s s 0
   unfolding listOf
-  bits-none = record { same = refl; count = sym (ones-zero g) }
+  bits-none = record { same = refl; count = sym (sum-zero g) }
 
   -- k bytes more
   pub bits-more : (t u : List ℕ) (m k n r q : ℕ) → BitsPut g m at s t r → BitsPut (λ p. g (8 * m + p)) k (at + m) t u q → m + k ≡ n
@@ -421,18 +423,18 @@ module _ (g : ℕ → ℕ) (at : ℕ) (s : List ℕ) where
             ∙ ap (λ (l : List ℕ). sets l (at + m) (bytesOf (λ p. g (8 * m + p)) k)) (x .same)
             ∙ sets-join (bytesOf g m) (bytesOf (λ p. g (8 * m + p)) k) s at (at + m) (omega (arith, length-bytes g m))
             ∙ ap (sets s at) (sym (bytes-append g m k) ∙ ap (bytesOf g) e);
-        count = omega (arith, x .count, y .count, ones-split g (8 * m) (8 * k), ap (ones g) i);
+        count = omega (arith, x .count, y .count, sum-split g (8 * m) (8 * k), ap (ones g) i);
       }
 
   -- one word
   pub bits-word : (t : List ℕ) (x q : ℕ) → t ≡ sets s at (le 8 x) → ((p : ℕ) → p < 64 → bit x p ≡ g p) → q ≡ ones (bit x) 64 → BitsPut g 8 at s t q
   bits-word t x q e h c =
-      record { same = e ∙ ap (sets s at) (le-bytes 8 x g h); count = c ∙ ones-ext (bit x) g 64 h }
+      record { same = e ∙ ap (sets s at) (le-bytes 8 x g h); count = c ∙ sum-ext (bit x) g 64 h }
 
   -- equal bits
   pub bits-ext : (f : ℕ → ℕ) (t : List ℕ) (m r : ℕ) → BitsPut f m at s t r → ((p : ℕ) → p < 8 * m → f p ≡ g p) → BitsPut g m at s t r
   bits-ext f t m r x h =
-      record { same = x .same ∙ ap (sets s at) (bytes-ext f g m h); count = x .count ∙ ones-ext f g (8 * m) h }
+      record { same = x .same ∙ ap (sets s at) (bytes-ext f g m h); count = x .count ∙ sum-ext f g (8 * m) h }
 
   -- the length stays
   pub bits-length : (t : List ℕ) (m r : ℕ) → BitsPut g m at s t r → length t ≡ length s
@@ -447,8 +449,8 @@ module _ (g : ℕ → ℕ) (at : ℕ) (s : List ℕ) where
   bits-size t m n r x e = subst (λ (k : ℕ). BitsPut g k at s t r) e x
 
 -- one word more of a block
-pub block-word : (block : List ℕ) (at : ℕ) (s t u : List ℕ) (j r q : ℕ) → BitsPut (bitAt block) (8 * j) at s t r → u ≡ sets t (at + 8 * j) (le 8 (getD block j 0))
-    → q ≡ ones (bit (getD block j 0)) 64 → BitsPut (bitAt block) (8 * (j + 1)) at s u (r + q)
+pub block-word : (block : List ℕ) (at : ℕ) (s t u : List ℕ) (j r q : ℕ) → BitsPut (bitAt block) (8 * j) at s t r
+    → u ≡ sets t (at + 8 * j) (le 8 (getD block j 0)) → q ≡ ones (bit (getD block j 0)) 64 → BitsPut (bitAt block) (8 * (j + 1)) at s u (r + q)
 block-word block at s t u j r q w e c =
     bits-more (bitAt block) at s t u (8 * j) 8 (8 * (j + 1)) r q w
     (bits-word (λ p. bitAt block (8 * (8 * j) + p)) (at + 8 * j) t u (getD block j 0) q e
@@ -458,16 +460,14 @@ block-word block at s t u j r q w e c =
     place : (p : ℕ) → 8 * (8 * j) + p ≡ 64 * j + p
     place p = omega arith
 
--- ---- a superblock stored block by block, with the ones up to each block's end
+-- ---- a superblock stored and counted block by block
 pub record Blocks (g : ℕ → ℕ) (at : ℕ) (s t counts : List ℕ) (sum j : ℕ) : Type 0 where
-  pub within : j ≤ 8
-  pub long : length counts ≡ 8
   pub put : BitsPut g (64 * j) at s t sum
-  pub ends : (i : ℕ) → i < j → getD counts i 0 ≡ ones g (512 * (i + 1))
+  pub counting : Counting g counts sum j
 
 -- nothing is stored yet
 pub blocks-none : (g : ℕ → ℕ) (at : ℕ) (s counts : List ℕ) → length counts ≡ 8 → Blocks g at s s counts 0 0
-blocks-none g at s counts h = record { within = omega arith; long = h; put = bits-none g at s; ends = (λ i l. absurd (omega arith)) }
+blocks-none g at s counts h = record { put = bits-none g at s; counting = counting-none g counts h }
 
 -- one block more, of eight words
 pub blocks-more : (ws : List ℕ) (w at : ℕ) (s t u counts block : List ℕ) (sum j q : ℕ) → Blocks (wordBits ws w) at s t counts sum j → j < 8
@@ -476,13 +476,9 @@ pub blocks-more : (ws : List ℕ) (w at : ℕ) (s t u counts block : List ℕ) (
 blocks-more ws w at s t u counts block sum j q x h words b =
     let g : ℕ → ℕ = wordBits ws w in
     let put : BitsPut g (64 * (j + 1)) at s u (sum + q) =
-    bits-more g at s t u (64 * j) 64 (64 * (j + 1)) sum q (x .put) (bits-ext (λ p. g (8 * (64 * j) + p)) (at + 64 * j) t (bitAt block) u 64 q b same) (omega arith) in
-    record {
-      within = omega arith;
-      long = length-set counts j (sum + q) ∙ x .long;
-      put = put;
-      ends = set-more (λ i. ones g (512 * (i + 1))) counts j (sum + q) (omega (arith, x .long)) (x .ends) (put .count ∙ ap (ones g) whole);
-    }
+    bits-more g at s t u (64 * j) 64 (64 * (j + 1)) sum q (x .put)
+    (bits-ext (λ p. g (8 * (64 * j) + p)) (at + 64 * j) t (bitAt block) u 64 q b same) (omega arith) in
+    record { put = put; counting = counting-more g counts sum j (sum + q) (x .counting) h (put .count ∙ ap (ones g) whole) }
   where
     whole : 8 * (64 * (j + 1)) ≡ 512 * (j + 1)
     whole = omega arith
@@ -496,44 +492,48 @@ blocks-more ws w at s t u counts block sum j q x h words b =
         l
 
 -- all eight are stored
-pub blocks-done : (g : ℕ → ℕ) (at : ℕ) (s t counts : List ℕ) (sum j : ℕ) → Blocks g at s t counts sum j → 8 ≤ j
-    → (t ≡ sets s at (bytesOf g 512)) × (length counts ≡ 8) × ((i : ℕ) → i < 8 → getD counts i 0 ≡ ones g (512 * (i + 1)))
+pub blocks-done : (g : ℕ → ℕ) (at : ℕ) (s t counts : List ℕ) (sum j : ℕ) → Blocks g at s t counts sum j → 8 ≤ j → CountedPut g at s t counts
 blocks-done g at s t counts sum j x h =
-    let e : 64 * j ≡ 512 = omega (arith, x .within) in
-    (bits-size g at s t (64 * j) 512 sum (x .put) e .same, x .long, λ i l. x .ends i (omega arith))
+    let e : 64 * j ≡ 512 = omega (arith, x .counting .within) in
+    record { same = bits-size g at s t (64 * j) 512 sum (x .put) e .same; counted = counting-done g counts sum j (x .counting) h }
 
 -- ---- a superblock stored: its entry in two halves, its bits through the scratch array
-pub superblock-stored : (g : ℕ → ℕ) (sum a b low high : ℕ) (s s1 s2 s3 bytes counts : List ℕ) → bytes ≡ bytesOf g 512
-    → ((j : ℕ) → j < 8 → getD counts j 0 ≡ ones g (512 * (j + 1))) → low + 2 ^ 64 * high ≡ sum + 2 ^ 44 * digits (2 ^ 12) (λ j. getD counts j 0) 7 → low < 2 ^ 64
-    → s1 ≡ sets s a (le 8 low) → s2 ≡ sets s1 (a + 8) (le 8 high) → s3 ≡ sets s2 b bytes → SuperblockPut g sum a b s s3 (sum + getD counts 7 0)
-superblock-stored g sum a b low high s s1 s2 s3 bytes counts is ends entry small h1 h2 h3 =
-    let word : low + 2 ^ 64 * high ≡ superblockEntry g sum = entry ∙ entry-made g (λ j. getD counts j 0) sum (λ j l. ends j (omega arith)) in
+pub superblock-stored : (g : ℕ → ℕ) (to : Target) (low high : ℕ) (s s1 s2 s3 bytes counts : List ℕ) → bytes ≡ bytesOf g 512 → BlockCounts g counts
+    → HalvesOf (entryFrom (to .before) counts) low high → s1 ≡ sets s (to .entry) (le 8 low) → s2 ≡ sets s1 (to .entry + 8) (le 8 high)
+    → s3 ≡ sets s2 (to .bits) bytes → SuperblockPut g to s s3 (to .before + getD counts 7 0)
+superblock-stored g to low high s s1 s2 s3 bytes counts is counted halves h1 h2 h3 =
+    let a : ℕ = to .entry in
+    let sum : ℕ = to .before in
+    let word : low + 2 ^ 64 * high ≡ superblockEntry g sum = halves .whole ∙ entry-made g counts sum counted in
     record {
       same =
           h3
-          ∙ ap₂ (λ (x y : List ℕ). sets x b y)
-          (h2 ∙ ap (λ (l : List ℕ). sets l (a + 8) (le 8 high)) h1 ∙ put-join s a 8 8 low high small ∙ ap (λ (v : ℕ). sets s a (le 16 v)) word) is;
-      count = ap (λ (x : ℕ). sum + x) (ends 7 (lit< tt));
+          ∙ ap₂ (λ (x y : List ℕ). sets x (to .bits) y)
+          (h2 ∙ ap (λ (l : List ℕ). sets l (a + 8) (le 8 high)) h1 ∙ put-join s a 8 8 low high (halves .small) ∙ ap (λ (v : ℕ). sets s a (le 16 v)) word) is;
+      count = ap (λ (x : ℕ). sum + x) (counted .ends 7 (lit< tt));
     }
 
 -- equal bits
-pub superblock-ext : (f g : ℕ → ℕ) (sum a b : ℕ) (s t : List ℕ) (r : ℕ) → SuperblockPut f sum a b s t r → ((p : ℕ) → p < 4096 → f p ≡ g p) → SuperblockPut g sum a b s t r
-superblock-ext f g sum a b s t r x h =
-    let entry : superblockEntry f sum ≡ superblockEntry g sum =
-    entry-made g (λ j. ones f (512 * (j + 1))) sum (λ j l. ones-ext f g (512 * (j + 1)) (λ p q. h p (omega arith))) in
+pub superblock-ext : (f g : ℕ → ℕ) (to : Target) (s t : List ℕ) (r : ℕ) → SuperblockPut f to s t r → ((p : ℕ) → p < 4096 → f p ≡ g p) → SuperblockPut g to s t r
+superblock-ext f g to s t r x h =
     record {
-      same = x .same ∙ ap₂ (λ (v : ℕ) (l : List ℕ). sets (sets s a (le 16 v)) b l) entry (bytes-ext f g 512 h);
-      count = x .count ∙ ap (λ (c : ℕ). sum + c) (ones-ext f g 4096 h);
+      same = x .same
+          ∙ ap₂ (λ (v : ℕ) (l : List ℕ). sets (sets s (to .entry) (le 16 v)) (to .bits) l) (entry-ext f g (to .before) h) (bytes-ext f g 512 h);
+      count = x .count ∙ ap (λ (c : ℕ). to .before + c) (sum-ext f g 4096 h);
     }
 
 -- ---- superblocks stored one after another
 -- nothing is stored yet
 pub row-none : (f : ℕ → ℕ) (a b : ℕ) (s : List ℕ) → RowPut f 0 a b s s 0
 unfolding entriesFrom listOf
-row-none f a b s = record { same = refl; count = sym (ones-zero f) }
+row-none f a b s = record { same = refl; count = sym (sum-zero f) }
+
+-- where superblock e goes, after the entries and the bits of those before it
+abbrev targetOf : ℕ → ℕ → ℕ → ℕ → Target
+targetOf a b e sum = record { entry = a + 16 * e; bits = b + 512 * e; before = sum }
 
 -- one superblock more
-pub row-more : (f : ℕ → ℕ) (e a b : ℕ) (s t u : List ℕ) (sum r : ℕ) → RowPut f e a b s t sum → SuperblockPut (λ p. f (4096 * e + p)) sum (a + 16 * e) (b + 512 * e) t u r
+pub row-more : (f : ℕ → ℕ) (e a b : ℕ) (s t u : List ℕ) (sum r : ℕ) → RowPut f e a b s t sum → SuperblockPut (λ p. f (4096 * e + p)) (targetOf a b e sum) t u r
     → a + 16 * (e + 1) ≤ b → RowPut f (e + 1) a b s u r
 row-more f e a b s t u sum r x y far =
     let g : ℕ → ℕ = λ p. f (4096 * e + p) in
@@ -560,7 +560,7 @@ row-more f e a b s t u sum r x y far =
           ∙ sets-join BS B (sets (sets s a ES) (a + 16 * e) E) b (b + 512 * e) (omega (arith, length-bytes f (512 * e)))
           ∙ ap₂ (λ (l m : List ℕ). sets l b m)
           (sets-join ES E s a (a + 16 * e) (omega (arith, length-entries f 0 e)) ∙ ap (sets s a) entries) bytes;
-      count = omega (arith, x .count, y .count, ones-split f (4096 * e) 4096, ap (ones f) j);
+      count = omega (arith, x .count, y .count, sum-split f (4096 * e) 4096, ap (ones f) j);
     }
 
 -- the length stays
@@ -582,8 +582,9 @@ put-four s A B C D at a b c =
     ∙ sets-join A (B ++ (C ++ D)) s at (at + 4) (omega arith)
 
 -- the whole record
-pub record-stored : (t : List ℕ) (n label total at b : ℕ) (s s1 s2 s3 s4 s5 : List ℕ) → length t ≡ n → ((p : ℕ) → cell t p ≤ 1) → b ≡ at + 16 + 16 * superblocksOf n
-    → RowPut (cell t) (superblocksOf n) (at + 16) b s s1 total → s2 ≡ sets s1 at (le 4 0) → s3 ≡ sets s2 (at + 4) (le 4 label) → s4 ≡ sets s3 (at + 8) (le 4 n)
+pub record-stored : (t : List ℕ) (n label total at b : ℕ) (s s1 s2 s3 s4 s5 : List ℕ) → length t ≡ n → ((p : ℕ) → cell t p ≤ 1)
+    → b ≡ at + 16 + 16 * superblocksOf n → RowPut (cell t) (superblocksOf n) (at + 16) b s s1 total → s2 ≡ sets s1 at (le 4 0)
+    → s3 ≡ sets s2 (at + 4) (le 4 label) → s4 ≡ sets s3 (at + 8) (le 4 n)
     → s5 ≡ sets s4 (at + 12) (le 4 total) → s5 ≡ sets s at (recordOf 0 label t)
 unfolding recordOf
 record-stored t n label total at b s s1 s2 s3 s4 s5 long bits place row h2 h3 h4 h5 =
@@ -597,7 +598,16 @@ record-stored t n label total at b s s1 s2 s3 s4 s5 long bits place row h2 h3 h4
     let whole : s1 ≡ sets s (at + 16) X =
     row .same ∙ sets-join (entriesFrom (cell t) 0 k) (bytesOf (cell t) (512 * k)) s (at + 16) b (omega (arith, length-entries (cell t) 0 k)) in
     let header : length H ≡ 16 =
-    omega (arith, length-append A (B ++ (C ++ D)), length-append B (C ++ D), length-append C D, length-le 4 0, length-le 4 label, length-le 4 n, length-le 4 total) in
+    omega (
+      arith,
+      length-append A (B ++ (C ++ D)),
+      length-append B (C ++ D),
+      length-append C D,
+      length-le 4 0,
+      length-le 4 label,
+      length-le 4 n,
+      length-le 4 total,
+    ) in
     let sum : total ≡ rank t 1 (length t) = row .count ∙ ones-past t (4096 * k) (omega arith) ∙ sym (rank-all t bits) in
     let flat : H ++ X ≡ A ++ (B ++ (C ++ (D ++ X))) = simp append-assoc in
     h5
@@ -607,7 +617,8 @@ record-stored t n label total at b s s1 s2 s3 s4 s5 long bits place row h2 h3 h4
     ∙ sets-comm H X s at (at + 16) (omega (arith, header))
     ∙ sets-join H X s at (at + 16) (omega (arith, header))
     ∙ ap (sets s at) flat
-    ∙ ap₂ (λ (m c : ℕ). sets s at (A ++ (B ++ (le 4 m ++ (le 4 c ++ (entriesFrom (cell t) 0 (superblocksOf m) ++ bytesOf (cell t) (512 * superblocksOf m))))))) (sym long) sum
+    ∙ ap₂ (λ (m c : ℕ). sets s at (A ++ (B ++ (le 4 m ++ (le 4 c ++ (entriesFrom (cell t) 0 (superblocksOf m) ++ bytesOf (cell t) (512 * superblocksOf m)))))))
+    (sym long) sum
 
 -- ---- the header of an image
 -- it has one unit

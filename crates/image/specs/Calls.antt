@@ -14,8 +14,8 @@ use Rattle.words.specs.Handles.{untaken, stripLines}
 use Rattle.words.specs.Calls.{valueLine, belowLine, withinLine, absentLine}
 use Rattle.counters.specs.Promises.{Promise, AtMost, Below}
 use Rattle.image.specs.Bytes.{le}
-use Rattle.image.specs.Layout.{unitBytes, headBytes, mostRow, sizeOf, recordOf}
-use Rattle.image.specs.Chain.{headerOf, labelAt, lengthAt, goodLabel, goodSize, chainOf, placeOf, endOf, linkOf}
+use Rattle.image.specs.Layout.{unitBytes, headBytes, sizeOf, recordOf}
+use Rattle.image.specs.Chain.{headerOf, lengthAt, goodLabel, goodFields, goodSize, chainOf, placeOf, chainEnd, linkOf}
 use Rattle.image.specs.Rows.{partAt, rowBits, rightPart, Right}
 
 -- whether there is something
@@ -66,7 +66,7 @@ placeLines sound label present bytes end = soundLine sound ∷ labelLine label �
 -- a new record of `size` bytes, at the end of an image's chain
 abbrev pub recordLines : List ℕ → ℕ → ℕ → List Line
 recordLines s label size =
-    placeLines (isSome (chainOf s)) label (isSome (recordWith s label)) (length s) (endOf s (recordsOf s) + size)
+    placeLines (isSome (chainOf s)) label (isSome (recordWith s label)) (length s) (chainEnd s (recordsOf s) + size)
 
 -- freeze(label): words only; 1, 2; 10; 11; 12; 13
 abbrev pub freezeTable : Handle → ℕ → List ℕ → ℕ → List Line
@@ -75,13 +75,13 @@ freezeTable h words s label = stripLines h words untaken ++ recordLines s label 
 -- the image with the record of strip t: it starts at the last record's end, or unit 1; its unit index replaces the zero that ended the chain
 abbrev pub frozen : List ℕ → ℕ → List ℕ → List ℕ
 frozen s label t =
-    sets (sets s (linkOf (recordsOf s)) (le 4 (endOf s (recordsOf s) / unitBytes))) (endOf s (recordsOf s)) (recordOf 0 label t)
+    sets (sets s (linkOf (recordsOf s)) (le 4 (chainEnd s (recordsOf s) / unitBytes))) (chainEnd s (recordsOf s)) (recordOf 0 label t)
 
 -- it answers its unit index
 abbrev pub freezeOutcome : Handle → List ℕ → List ℕ → ℕ → ImageOutcome
 freezeOutcome h ws s label =
     unless (judge (freezeTable h (length ws) s label)) (λ n. imageOutcome (refused n) s)
-    (imageOutcome (value (endOf s (recordsOf s) / unitBytes)) (frozen s label (stripOf ws (h .length))))
+    (imageOutcome (value (chainEnd s (recordsOf s) / unitBytes)) (frozen s label (stripOf ws (h .length))))
 
 -- a row by its label: 10; 11; 14 label absent
 abbrev pub rowLines : Bool → ℕ → Bool → List Line
@@ -132,9 +132,7 @@ heldLength part = cond (leb headBytes (length part)) (lengthAt part 0) 0
 -- the part is exactly one record with label and length in range, and n is its length
 unfoldable pub goodPart : List ℕ → ℕ → Bool
 goodPart part n =
-    leb headBytes (length part)
-    && (goodLabel (labelAt part 0)
-    && (leb (lengthAt part 0) mostRow && (eqb (length part) (sizeOf (lengthAt part 0)) && eqb n (lengthAt part 0))))
+    leb headBytes (length part) && (goodFields part 0 && (eqb (length part) (sizeOf (lengthAt part 0)) && eqb n (lengthAt part 0)))
 
 -- 10 before all else
 abbrev pub partLine : List ℕ → ℕ → Line
@@ -149,7 +147,8 @@ abbrev pub PartRanked : List ℕ → ℕ → ℕ → ℕ → Told → Type 0
 PartRanked part n v i =
     Promise Told (judge (partLine part n ∷ valueLine v ∷ withinLine n i ∷ [])) refused (value (rank (rowBits part n) v i)) (Right part n) (AtMost 15 i)
 
--- find(v, k) on a part: 10; 8; 6 where k is not below the length, on any row; on a right one 6 where it is not below the number of v, else 6 or 15 may come
+-- find(v, k) on a part: 10; 8; 6 where k is not below the length, on any row. Below the length: on a right row 6 exactly where k is not below the number of
+-- v; on any other a position, 6 or 15
 abbrev pub PartSelected : List ℕ → ℕ → ℕ → ℕ → Told → Type 0
 PartSelected part n v k =
     Promise Told (judge (partLine part n ∷ valueLine v ∷ absentLine n k ∷ [])) refused (found (select (rowBits part n) v k)) (Right part n) (Below 15 n)

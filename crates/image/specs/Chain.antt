@@ -37,6 +37,10 @@ goodLabel n = leb 1 n && leb n mostLabel
 abbrev pub goodSize : ℕ → Bool
 goodSize n = leb unitBytes n && leb n mostBytes
 
+-- the label and the length of the record at byte a are in range
+abbrev pub goodFields : List ℕ → ℕ → Bool
+goodFields s a = goodLabel (labelAt s a) && leb (lengthAt s a) mostRow
+
 -- the image has 16 to 2^32 bytes, and bytes 4 to 15 are right
 unfoldable pub soundHeader : List ℕ → Bool
 soundHeader s = goodSize (length s) && (eqb (num s 4 4) kind && eqb (num s 8 8) 0)
@@ -45,9 +49,7 @@ soundHeader s = goodSize (length s) && (eqb (num s 4 4) kind && eqb (num s 8 8) 
 unfoldable pub soundRecord : List ℕ → ℕ → Bool
 soundRecord s a =
     leb (a + headBytes) (length s)
-    && (goodLabel (labelAt s a)
-    && (leb (lengthAt s a) mostRow
-    && (leb (endAt s a) (length s) && (eqb (nextAt s a) 0 || leb (endAt s a) (unitBytes * nextAt s a)))))
+    && (goodFields s a && (leb (endAt s a) (length s) && (eqb (nextAt s a) 0 || leb (endAt s a) (unitBytes * nextAt s a))))
 
 -- whether x is in a list
 unfoldable pub among : ℕ → List ℕ → Bool
@@ -87,10 +89,10 @@ placeOf s label [] = none
 placeOf s label (a ∷ bs) = cond (eqb (labelAt s a) label) (some a) (placeOf s label bs)
 
 -- the end of the last record, or unit 1
-unfoldable pub endOf : List ℕ → List ℕ → ℕ
-endOf s [] = unitBytes
-endOf s (a ∷ []) = endAt s a
-endOf s (a ∷ b ∷ bs) = endOf s (b ∷ bs)
+unfoldable pub chainEnd : List ℕ → List ℕ → ℕ
+chainEnd s [] = unitBytes
+chainEnd s (a ∷ []) = endAt s a
+chainEnd s (a ∷ b ∷ bs) = chainEnd s (b ∷ bs)
 
 -- the byte where the index that ends the chain stands: that of the last record, or of the header
 unfoldable pub linkOf : List ℕ → ℕ

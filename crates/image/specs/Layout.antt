@@ -4,7 +4,7 @@ use mathlib.Core.List.{List, [], _++_}
 use lib.ListN.{length}
 use Rattle.words.specs.Bits.{ones, digits, listOf}
 use Rattle.words.specs.Strip.{cell, rank}
-use Rattle.words.specs.Handles.{blockBits}
+use Rattle.words.specs.Handles.{blockBits, mostBits}
 use Rattle.image.specs.Bytes.{le}
 
 -- a unit of the image, in bytes
@@ -25,7 +25,7 @@ superblockBytes = superblockBits / 8
 abbrev pub entryBytes : ℕ
 entryBytes = 16
 
--- the longest image in bytes, the highest label, and the longest row
+-- the longest image in bytes, the highest label, and the longest row in bits: that of the largest capacity
 abbrev pub mostBytes : ℕ
 mostBytes = 4294967296
 
@@ -33,7 +33,7 @@ abbrev pub mostLabel : ℕ
 mostLabel = 64
 
 abbrev pub mostRow : ℕ
-mostRow = 134217728
+mostRow = mostBits
 
 -- the bytes of the four numbers that a record starts with
 abbrev pub headBytes : ℕ

@@ -2,9 +2,9 @@ pub mod Bytes
 pub mod Layout
 pub mod Chain
 pub mod Rows
-pub mod Written
+pub mod Shelf
 pub mod Calls
-pub mod Frozen
+pub mod RoundTrip
 pub mod Walk
 pub mod Writing
 pub mod Reading

@@ -1,12 +1,11 @@
 -- A row by its own part of the image: its bits, and whether it is right; an image whose rows all are. Assumes nothing.
 use Prim.Native.Nat.{ℕ, _<_}
 use mathlib.Core.Path.{_≡_}
-use mathlib.Core.Bool.{Bool, true, false, _&&_}
-use mathlib.Core.List.{List, [], _∷_}
+use mathlib.Core.Bool.{Bool}
+use mathlib.Core.List.{List}
 use mathlib.Core.Option.{some}
 use lib.ListN.{length, getD, take, drop}
-use lib.Dec.{eqb}
-use Rattle.words.specs.Bits.{listOf}
+use Rattle.words.specs.Bits.{listOf, same}
 use Rattle.image.specs.Bytes.{bitFrom}
 use Rattle.image.specs.Layout.{bitsStart, sizeOf, recordOf}
 use Rattle.image.specs.Chain.{nextAt, labelAt, lengthAt, chainOf}
@@ -18,13 +17,6 @@ partAt s a = take (sizeOf (lengthAt s a)) (drop a s)
 -- the row's bits: those of a part of n bits
 abbrev pub rowBits : List ℕ → ℕ → List ℕ
 rowBits part n = listOf (bitFrom part (bitsStart n)) n
-
--- whether two lists of bytes are the same
-unfoldable pub same : List ℕ → List ℕ → Bool
-same [] [] = true
-same [] (y ∷ ys) = false
-same (x ∷ xs) [] = false
-same (x ∷ xs) (y ∷ ys) = eqb x y && same xs ys
 
 -- a row is right, its ones, entries and padding, when its part is the record that would be written for its bits
 abbrev pub Right : List ℕ → ℕ → Type 0

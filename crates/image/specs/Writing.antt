@@ -1,16 +1,20 @@
 -- Derived, for inner contracts: what is stored while a record is written. Laws in proofs/ tie it to the layout. Assumes nothing.
-use Prim.Native.Nat.{ℕ, _+_, _*_}
+use Prim.Native.Nat.{ℕ, _+_, _*_, _^_, _<_, _≤_}
 use mathlib.Core.Path.{_≡_}
 use mathlib.Core.List.{List}
+use lib.ListN.{length, getD}
 use lib.Seq.{sets}
-use Rattle.words.specs.Bits.{bitAt, ones}
+use Rattle.words.specs.Bits.{bitAt, ones, digits}
+use Rattle.words.specs.Handles.{blockBits}
+use Rattle.words.specs.Strip.{cell}
 use Rattle.words.specs.declared.handle.Handle.{Handle}
 use Rattle.words.specs.Refusals.{numberOf, judge, unless}
+use Rattle.image.specs.declared.write.Target.{Target}
 use Rattle.image.specs.declared.freeze.Place.{Place}
 use Rattle.image.specs.declared.freeze.Place.the-variants as place
 use Rattle.image.specs.Bytes.{le}
-use Rattle.image.specs.Layout.{superblockBits, superblockBytes, entryBytes, superblockEntry, entriesFrom, bytesOf}
-use Rattle.image.specs.Chain.{endOf, linkOf}
+use Rattle.image.specs.Layout.{superblockBits, superblockBytes, entryBytes, mostRow, superblockEntry, entriesFrom, bytesOf}
+use Rattle.image.specs.Chain.{chainEnd, linkOf}
 use Rattle.image.specs.Calls.{recordsOf, recordLines, freezeTable}
 
 -- where a new record goes: the byte where the index that ends the chain stands, and the byte where the record starts; or the number of a refusal
@@ -24,11 +28,31 @@ placeTold (place.Refused r) = nowhere (numberOf r)
 
 -- that of a record of so many bytes
 abbrev pub newPlace : List ℕ → ℕ → ℕ → PlaceTold
-newPlace s label size = unless (judge (recordLines s label size)) nowhere (at (linkOf (recordsOf s)) (endOf s (recordsOf s)))
+newPlace s label size = unless (judge (recordLines s label size)) nowhere (at (linkOf (recordsOf s)) (chainEnd s (recordsOf s)))
 
 -- that of the record of a strip
 abbrev pub freezePlace : Handle → ℕ → List ℕ → ℕ → PlaceTold
-freezePlace h words s label = unless (judge (freezeTable h words s label)) nowhere (at (linkOf (recordsOf s)) (endOf s (recordsOf s)))
+freezePlace h words s label = unless (judge (freezeTable h words s label)) nowhere (at (linkOf (recordsOf s)) (chainEnd s (recordsOf s)))
+
+-- the ones of a superblock of bits g up to the end of each of its eight blocks
+pub record BlockCounts (g : ℕ → ℕ) (counts : List ℕ) : Type 0 where
+  pub long : length counts ≡ 8
+  pub ends : (j : ℕ) → j < 8 → getD counts j 0 ≡ ones g (blockBits * (j + 1))
+
+-- the numbers of an entry fit its fields: the ones before its superblock, and the first seven of eight counts
+pub record EntryFits (before : ℕ) (counts : List ℕ) : Type 0 where
+  pub first : before < 2 ^ 44
+  pub long : length counts ≡ 8
+  pub others : (j : ℕ) → j < 7 → getD counts j 0 < 2 ^ 12
+
+-- the entry with these numbers
+abbrev pub entryFrom : ℕ → List ℕ → ℕ
+entryFrom before counts = before + 2 ^ 44 * digits (2 ^ 12) (λ j. getD counts j 0) 7
+
+-- the number v as two words
+pub record HalvesOf (v low high : ℕ) : Type 0 where
+  pub whole : low + 2 ^ 64 * high ≡ v
+  pub small : low < 2 ^ 64
 
 -- the bits from word w on
 abbrev pub wordBits : List ℕ → ℕ → ℕ → ℕ
@@ -39,10 +63,27 @@ pub record BitsPut (g : ℕ → ℕ) (m at : ℕ) (s t : List ℕ) (r : ℕ) : T
   pub same : t ≡ sets s at (bytesOf g m)
   pub count : r ≡ ones g (8 * m)
 
--- t is s with the entry of a superblock of bits g, `sum` ones before it, stored from byte a on and its bits from byte b on; r is the ones up to its end
-pub record SuperblockPut (g : ℕ → ℕ) (sum a b : ℕ) (s t : List ℕ) (r : ℕ) : Type 0 where
-  pub same : t ≡ sets (sets s a (le entryBytes (superblockEntry g sum))) b (bytesOf g superblockBytes)
-  pub count : r ≡ sum + ones g superblockBits
+-- t is s with the bytes of a superblock of bits g stored from byte `at` on; counts are its ones up to the end of each of its blocks
+pub record CountedPut (g : ℕ → ℕ) (at : ℕ) (s t counts : List ℕ) : Type 0 where
+  pub same : t ≡ sets s at (bytesOf g superblockBytes)
+  pub counted : BlockCounts g counts
+
+-- the words hold n bits, and a row may have so many
+abbrev pub StripFits : List ℕ → ℕ → Type 0
+StripFits ws n = (n ≤ 64 * length ws) × (n ≤ mostRow)
+
+-- the bits of superblock e of a strip
+abbrev pub superblockCells : List ℕ → ℕ → ℕ → ℕ
+superblockCells t e p = cell t (superblockBits * e + p)
+
+-- a superblock fits where it goes in the image s: its entry before its bits, and no more ones before it than a row may have bits
+abbrev pub TargetFits : Target → List ℕ → Type 0
+TargetFits to s = (to .entry + entryBytes ≤ to .bits) × (to .bits + superblockBytes ≤ length s) × (to .before ≤ mostRow)
+
+-- t is s with the entry and the bits of a superblock of bits g stored where they go; r is the ones up to its end
+pub record SuperblockPut (g : ℕ → ℕ) (to : Target) (s t : List ℕ) (r : ℕ) : Type 0 where
+  pub same : t ≡ sets (sets s (to .entry) (le entryBytes (superblockEntry g (to .before)))) (to .bits) (bytesOf g superblockBytes)
+  pub count : r ≡ to .before + ones g superblockBits
 
 -- t is s with the first k entries of the bits f stored from byte a on and the bits of as many superblocks from byte b on; r is their ones
 pub record RowPut (f : ℕ → ℕ) (k a b : ℕ) (s t : List ℕ) (r : ℕ) : Type 0 where

@@ -3,13 +3,18 @@ ghost use mathlib.Core.Path.{_≡_};
 ghost use Rattle.image.specs.Chain.{soundHeader, soundRecord};
 ghost use Rattle.image.specs.Walk.{scanOf};
 use super::bytes::index_at;
+use super::bytes::u64_at;
+use super::fields::fields_good;
+use super::fields::first_record;
+use super::fields::label_at;
+use super::fields::next_record;
+use super::fields::record_end;
 use super::layout::HEAD_BYTES;
 use super::layout::KIND;
+use super::layout::KIND_OFFSET;
 use super::layout::MOST_LABEL;
-use super::layout::MOST_ROW;
 use super::layout::UNIT_BYTES;
-use super::layout::label_good;
-use super::layout::record_size;
+use super::layout::ZEROS_OFFSET;
 use super::layout::size_good;
 
 // What one walk of the chain tells: where the index that ends it stands, where its last record ends, and where the label's record starts, 0 for none.
@@ -29,13 +34,10 @@ pub fn header_sound(image: &[u8]) -> bool
     if !size_good(image.len()) {
         return false;
     }
-    if index_at(image, 4) != KIND {
+    if index_at(image, KIND_OFFSET) != KIND {
         return false;
     }
-    if index_at(image, 8) != 0 {
-        return false;
-    }
-    index_at(image, 12) == 0
+    u64_at(image, ZEROS_OFFSET) == 0
 }
 
 // Whether the record at byte `at` lies inside the image, has a label and a length in range, and has a next that is zero or not before its end.
@@ -49,32 +51,28 @@ pub fn record_sound(image: &[u8], at: usize) -> bool
     if n - HEAD_BYTES < at {
         return false;
     }
-    if !label_good(index_at(image, at + 4)) {
+    if !fields_good(image, at) {
         return false;
     }
-    let bits = index_at(image, at + 8);
-    if MOST_ROW < bits {
+    let end = record_end(image, at);
+    if n < end {
         return false;
     }
-    let size = record_size(bits);
-    if n - at < size {
-        return false;
-    }
-    let next = index_at(image, at);
+    let next = next_record(image, at);
     if next == 0 {
         return true;
     }
-    at + size <= UNIT_BYTES * next
+    end <= next
 }
 
-// One walk of the whole chain, of which at most 16 bytes are read for each record. `met` has a flag for each label met so far.
+// One walk of the whole chain, which reads three numbers of each record: next index, label and length. `met` has a flag for each label met so far.
 pub fn scan_chain(image: &[u8], label: usize) -> Scan
     ensures { λ r. ⌜ r ≡ scanOf (now (image .entry)) label ⌝ }
 {
     if !header_sound(image) {
         return Scan::Unsound;
     }
-    let mut at = UNIT_BYTES * index_at(image, 0);
+    let mut at = first_record(image);
     let mut met = [false; MOST_LABEL + 1];
     let mut link: usize = 0;
     let mut end = UNIT_BYTES;
@@ -83,7 +81,7 @@ pub fn scan_chain(image: &[u8], label: usize) -> Scan
         if !record_sound(image, at) {
             return Scan::Unsound;
         }
-        let here = index_at(image, at + 4);
+        let here = label_at(image, at);
         if met[here] {
             return Scan::Unsound;
         }
@@ -92,8 +90,8 @@ pub fn scan_chain(image: &[u8], label: usize) -> Scan
             found = at;
         }
         link = at;
-        end = at + record_size(index_at(image, at + 8));
-        at = UNIT_BYTES * index_at(image, at);
+        end = record_end(image, at);
+        at = next_record(image, at);
     }
     Scan::Sound { link, end, found }
 }

@@ -3,7 +3,9 @@ ghost use mathlib.Core.Path.{_≡_};
 ghost use Rattle.words.specs.Refusals.{toldOf};
 ghost use Rattle.image.specs.Calls.{imageOutcome, clearOutcome};
 use super::layout::KIND;
+use super::layout::KIND_OFFSET;
 use super::layout::UNIT_BYTES;
+use super::layout::ZEROS_OFFSET;
 use super::layout::size_good;
 use super::put::put_le;
 use super::put::put_word;
@@ -18,7 +20,7 @@ pub fn clear(image: &mut [u8]) -> Answer
         return Answer::Refused(Refusal::NoRoom);
     }
     put_le(image, 0, 4, 0);
-    put_le(image, 4, 4, KIND as u64);
-    put_word(image, 8, 0);
+    put_le(image, KIND_OFFSET, 4, KIND as u64);
+    put_word(image, ZEROS_OFFSET, 0);
     Answer::Value(UNIT_BYTES as u64)
 }

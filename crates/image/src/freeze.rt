@@ -2,6 +2,7 @@
 ghost use mathlib.Core.Path.{_≡_};
 ghost use Prim.Native.Nat.{_≤_};
 ghost use Rattle.words.specs.Refusals.{toldOf};
+ghost use Rattle.image.specs.Layout.{mostBytes};
 ghost use Rattle.image.specs.Calls.{imageOutcome, freezeOutcome};
 ghost use Rattle.image.specs.Writing.{placeTold, newPlace, freezePlace};
 use super::chain::Scan;
@@ -12,6 +13,7 @@ use super::layout::record_size;
 use super::put::put_le;
 use super::write::write_record;
 use words::handle::Handle;
+use words::handle::UNTAKEN;
 use words::handle::check_strip;
 use words::refusal::Answer;
 use words::refusal::Refusal;
@@ -25,7 +27,7 @@ pub enum Place {
 
 // The place of a new record of `size` bytes: 10, 11, 12, 13.
 fn new_place(image: &[u8], label: usize, size: usize) -> Place
-    requires { ⌜ size ≤ 4294967296 ⌝ }
+    requires { ⌜ size ≤ mostBytes ⌝ }
     ensures { λ r. ⌜ placeTold r ≡ newPlace (now (image .entry)) label size ⌝ }
 {
     match scan_chain(image, label) {
@@ -49,7 +51,7 @@ fn new_place(image: &[u8], label: usize, size: usize) -> Place
 fn check_freeze(h: Handle, words: usize, image: &[u8], label: usize) -> Place
     ensures { λ r. ⌜ placeTold r ≡ freezePlace h words (now (image .entry)) label ⌝ }
 {
-    match check_strip(h, words, true) {
+    match check_strip(h, words, UNTAKEN) {
         Verdict::Refuse(r) => Place::Refused(r),
         Verdict::Pass => new_place(image, label, record_size(h.length)),
     }

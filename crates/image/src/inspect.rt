@@ -4,10 +4,11 @@ ghost use mathlib.Core.Bool.{true};
 ghost use Rattle.words.specs.Refusals.{toldOf};
 ghost use Rattle.image.specs.Chain.{chainOf};
 ghost use Rattle.image.specs.Calls.{isSome, inspectTold};
-use super::bytes::index_at;
 use super::chain::Scan;
 use super::chain::scan_chain;
-use super::layout::UNIT_BYTES;
+use super::fields::first_record;
+use super::fields::length_at;
+use super::fields::next_record;
 use super::open::record_part;
 use super::right::part_right;
 use words::refusal::Answer;
@@ -18,15 +19,15 @@ fn count_rows(image: &[u8]) -> Answer
     requires { ⌜ isSome (chainOf (now image)) ≡ true ⌝ }
     ensures { λ r. ⌜ toldOf r ≡ inspectTold (now (image .entry)) ⌝ }
 {
-    let mut at = UNIT_BYTES * index_at(image, 0);
+    let mut at = first_record(image);
     let mut count: u64 = 0;
     while at != 0 {
         let part = record_part(image, at);
-        if !part_right(part, index_at(part, 8)) {
+        if !part_right(part, length_at(part, 0)) {
             return Answer::Refused(Refusal::WrongRow);
         }
         count += 1;
-        at = UNIT_BYTES * index_at(image, at);
+        at = next_record(image, at);
     }
     Answer::Value(count)
 }

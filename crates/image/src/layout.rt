@@ -1,29 +1,40 @@
 // The layout of an image: its constants, and the sizes of a record.
 ghost use mathlib.Core.Path.{_≡_};
-ghost use Prim.Native.Nat.{_<_, _≤_};
-ghost use Rattle.image.specs.Layout.{superblocksOf, bitsStart, sizeOf};
+ghost use Prim.Native.Nat.{_^_, _<_, _≤_};
+ghost use Rattle.image.specs.Layout.{mostRow, superblocksOf, bitsStart, sizeOf};
 ghost use Rattle.image.specs.Chain.{goodLabel, goodSize};
 use words::handle::BLOCK_BITS;
+use words::handle::MOST_BITS;
 
 // A unit of the image, in bytes.
 pub const UNIT_BYTES: usize = 16;
 // The longest image, in bytes.
-pub const MOST_BYTES: usize = 4294967296;
+pub const MOST_BYTES: usize = 1 << 32;
 // The kind of an image.
 pub const KIND: usize = 1;
+// Where the kind stands in the header, after the first index.
+pub const KIND_OFFSET: usize = 4;
+// Where its zeros stand.
+pub const ZEROS_OFFSET: usize = 8;
 // The highest label.
 pub const MOST_LABEL: usize = 64;
-// The longest row, in bits.
-pub const MOST_ROW: usize = 134217728;
+// The longest row, in bits: that of the largest capacity.
+pub const MOST_ROW: usize = MOST_BITS;
 // The bytes of the four numbers that a record starts with.
 pub const HEAD_BYTES: usize = 16;
+// Where the label stands in a record, after the next index.
+pub const LABEL_OFFSET: usize = 4;
+// Where the length in bits stands.
+pub const LENGTH_OFFSET: usize = 8;
+// Where the number of ones stands.
+pub const ONES_OFFSET: usize = 12;
 // The bytes of an entry.
 pub const ENTRY_BYTES: usize = 16;
-// The bits of a superblock, the image's block of 4,096 bits.
+// The bits of a superblock: eight blocks.
 pub const SUPERBLOCK_BITS: usize = 4096;
 // The bytes of a superblock's bits.
 pub const SUPERBLOCK_BYTES: usize = SUPERBLOCK_BITS / 8;
-// The bytes of a block's bits; a block is the image's part of 512 bits.
+// The bytes of a block's bits.
 pub const BLOCK_BYTES: usize = BLOCK_BITS / 8;
 
 // Whether an image may have so many bytes.
@@ -48,23 +59,23 @@ pub fn label_good(label: usize) -> bool
 
 // The superblocks of n bits.
 pub fn superblocks_of(n: usize) -> usize
-    requires { ⌜ n < 4294967296 ⌝ }
-    ensures { λ r. ⌜ (r ≡ superblocksOf n) × (r ≤ 1048576) ⌝ }
+    requires { ⌜ n < 2 ^ 32 ⌝ }
+    ensures { λ r. ⌜ (r ≡ superblocksOf n) × (r ≤ superblocksOf (2 ^ 32)) ⌝ }
 {
     (n + (SUPERBLOCK_BITS - 1)) / SUPERBLOCK_BITS
 }
 
 // Where the bits start in a record of n bits.
 pub fn bits_start(n: usize) -> usize
-    requires { ⌜ n ≤ 134217728 ⌝ }
-    ensures { λ r. ⌜ (r ≡ bitsStart n) × (r ≤ 524304) ⌝ }
+    requires { ⌜ n ≤ mostRow ⌝ }
+    ensures { λ r. ⌜ (r ≡ bitsStart n) × (r ≤ bitsStart mostRow) ⌝ }
 {
     HEAD_BYTES + ENTRY_BYTES * superblocks_of(n)
 }
 
 // The size of a record of n bits.
 pub fn record_size(n: usize) -> usize
-    requires { ⌜ n < 4294967296 ⌝ }
+    requires { ⌜ n < 2 ^ 32 ⌝ }
     ensures { λ r. ⌜ r ≡ sizeOf n ⌝ }
 {
     HEAD_BYTES + (ENTRY_BYTES + SUPERBLOCK_BYTES) * superblocks_of(n)

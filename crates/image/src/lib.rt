@@ -2,6 +2,7 @@
 pub mod bytes;
 pub mod chain;
 pub mod clear;
+pub mod fields;
 pub mod freeze;
 pub mod inspect;
 pub mod layout;

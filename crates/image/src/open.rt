@@ -3,15 +3,16 @@ ghost use mathlib.Core.Path.{_≡_};
 ghost use Prim.Native.Nat.{_+_, _≤_};
 ghost use lib.ListN.{length};
 ghost use Rattle.words.specs.Refusals.{toldOf};
+ghost use Rattle.image.specs.Layout.{headBytes};
 ghost use Rattle.image.specs.Chain.{endAt};
 ghost use Rattle.image.specs.Rows.{partAt};
 ghost use Rattle.image.specs.Calls.{openTold, openPart, heldLength};
-use super::bytes::index_at;
 use super::chain::Scan;
 use super::chain::scan_chain;
+use super::fields::length_at;
+use super::fields::record_end;
 use super::layout::HEAD_BYTES;
 use super::layout::label_good;
-use super::layout::record_size;
 use words::refusal::Answer;
 use words::refusal::Refusal;
 
@@ -39,11 +40,11 @@ pub fn open_row(image: &[u8], label: usize) -> Answer
 
 // The part of the image that the record at byte `at` takes.
 pub fn record_part(image: &[u8], at: usize) -> &[u8]
-    requires { ⌜ (at + 16 ≤ length (now image)) × (endAt (now image) at ≤ length (now image)) ⌝ }
+    requires { ⌜ (at + headBytes ≤ length (now image)) × (endAt (now image) at ≤ length (now image)) ⌝ }
     ensures { λ r. ⌜ now r ≡ partAt (now (image .entry)) at ⌝ }
 {
-    let size = record_size(index_at(image, at + 8));
-    &image[at..at + size]
+    let end = record_end(image, at);
+    &image[at..end]
 }
 
 // The row's own part of the image, from its record's start to its end; empty where the opening is refused.
@@ -64,5 +65,5 @@ pub fn row_length(part: &[u8]) -> usize
     if part.len() < HEAD_BYTES {
         return 0;
     }
-    index_at(part, 8)
+    length_at(part, 0)
 }

@@ -2,13 +2,12 @@
 ghost use mathlib.Core.Path.{_≡_};
 ghost use Rattle.words.specs.Refusals.{toldOf};
 ghost use Rattle.image.specs.Calls.{goodPart, partGetTold, PartRanked, PartSelected};
-use super::bytes::index_at;
+use super::fields::fields_good;
+use super::fields::length_at;
+use super::fields::ones_at;
 use super::layout::HEAD_BYTES;
-use super::layout::MOST_ROW;
-use super::layout::label_good;
 use super::layout::record_size;
 use super::reading::part_bit;
-use super::reading::part_ones;
 use super::reading::part_ones_before;
 use super::reading::part_position;
 use words::bits::of_value;
@@ -23,13 +22,10 @@ pub fn check_part(part: &[u8], n: usize) -> bool
     if bytes < HEAD_BYTES {
         return false;
     }
-    if !label_good(index_at(part, 4)) {
+    if !fields_good(part, 0) {
         return false;
     }
-    let length = index_at(part, 8);
-    if MOST_ROW < length {
-        return false;
-    }
+    let length = length_at(part, 0);
     if bytes != record_size(length) {
         return false;
     }
@@ -82,7 +78,7 @@ pub fn part_select(part: &[u8], n: usize, v: u64, k: usize) -> Answer
     if n <= k {
         return Answer::Refused(Refusal::NotFound);
     }
-    let ones = part_ones(part);
+    let ones = ones_at(part, 0);
     if n < ones {
         return Answer::Refused(Refusal::WrongRow);
     }

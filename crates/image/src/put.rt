@@ -1,4 +1,4 @@
-// Numbers and bytes stored into a list of bytes.
+// Stores of numbers and bytes into a list of bytes.
 ghost use mathlib.Core.Path.{_≡_};
 ghost use Prim.Native.Nat.{_+_, _%_, _≤_};
 ghost use lib.ListN.{length};
@@ -12,7 +12,7 @@ fn low_byte(x: u64) -> u8
     (x % 256) as u8
 }
 
-// The n low bytes of v from byte at on.
+// Stores the n low bytes of v from byte `at` on.
 pub fn put_le(s: &mut [u8], at: usize, n: usize, v: u64)
     requires { ⌜ at + n ≤ length (now s) ⌝ }
     ensures { λ _. ⌜ now (s .exit) ≡ sets (now (s .entry)) at (le n v) ⌝ }
@@ -24,7 +24,7 @@ pub fn put_le(s: &mut [u8], at: usize, n: usize, v: u64)
     }
 }
 
-// The eight bytes of a word from byte at on: eight stores with no loop, which the compiler makes one.
+// Stores the eight bytes of a word from byte `at` on: eight stores with no loop, which the compiler makes one.
 pub fn put_word(s: &mut [u8], at: usize, v: u64)
     requires { ⌜ at + 8 ≤ length (now s) ⌝ }
     ensures { λ _. ⌜ now (s .exit) ≡ sets (now (s .entry)) at (le 8 v) ⌝ }
@@ -39,7 +39,7 @@ pub fn put_word(s: &mut [u8], at: usize, v: u64)
     s[at + 7] = low_byte(v >> 56);
 }
 
-// The n bytes b from byte at on. Where n is a constant, the copy has a constant length.
+// Stores the n bytes b from byte `at` on. Where n is a constant, the copy has a constant length.
 pub fn put_bytes(s: &mut [u8], at: usize, b: &[u8], n: usize)
     requires { ⌜ (length (now b) ≡ n) × (at + n ≤ length (now s)) ⌝ }
     ensures { λ _. ⌜ now (s .exit) ≡ sets (now (s .entry)) at (now (b .entry)) ⌝ }

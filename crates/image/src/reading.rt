@@ -3,16 +3,14 @@ ghost use mathlib.Core.Path.{_≡_};
 ghost use Prim.Native.Nat.{ℕ, _+_, _*_, _/_, _^_, _<_, _≤_};
 ghost use lib.ListN.{length};
 ghost use Rattle.words.specs.Bits.{bitAt, ones};
-ghost use Rattle.words.specs.Strip.{cell, rankOf, selectOf};
-ghost use Rattle.words.specs.Words.{placeIn};
+ghost use Rattle.words.specs.Strip.{cell};
 ghost use Rattle.words.specs.Working.{atMost};
+ghost use Rattle.words.specs.Handles.{blockBits};
 ghost use Rattle.image.specs.Bytes.{bitFrom};
-ghost use Rattle.image.specs.Layout.{bitsStart, sizeOf};
-ghost use Rattle.image.specs.Chain.{onesAt};
+ghost use Rattle.image.specs.Layout.{superblockBits, headBytes, entryBytes, mostRow, bitsStart, sizeOf};
 ghost use Rattle.image.specs.Rows.{rowBits, Right};
-ghost use Rattle.image.specs.Reading.{blockField, entryOnes, entryValues, Halved};
+ghost use Rattle.image.specs.Reading.{blockField, HasEntry, entryOnes, entryValues, Halved, PositionIn};
 use super::bytes::byte_at;
-use super::bytes::index_at;
 use super::bytes::u64_at;
 use super::layout::BLOCK_BYTES;
 use super::layout::ENTRY_BYTES;
@@ -24,35 +22,40 @@ use words::block::block_rank;
 use words::block::block_select;
 use words::handle::BLOCK_BITS;
 
+// How many values a field of an entry has: 44 bits for the ones before its superblock, 12 for those of the superblock before one of its blocks.
+const SUPERBLOCK_FIELD: u64 = 1 << 44;
+
+const BLOCK_FIELD: u64 = 1 << 12;
+
 // Bit i of a row.
 pub fn part_bit(part: &[u8], n: usize, i: usize) -> u64
-    requires { ⌜ (length (now part) ≡ sizeOf n) × (n ≤ 134217728) × (i < n) ⌝ }
+    requires { ⌜ (length (now part) ≡ sizeOf n) × (n ≤ mostRow) × (i < n) ⌝ }
     ensures { λ r. ⌜ r ≡ bitFrom (now (part .entry)) (bitsStart n) i ⌝ }
 {
     bit_of(byte_at(part, bits_start(n) + i / 8), i % 8)
 }
 
-// The ones of an entry's superblock before its block j, of an entry in two halves: blocks 0 to 4 from the 52 bits past the lowest 44, with 12 zeros below them,
-// the others from the high half.
+// Of an entry in two halves, the ones of its superblock before block j: 0 for block 0, else the 12 bits from bit 32 + 12 j on. For blocks 0 to 4 they stand
+// from bit 12 j on in the word that has the entry from bit 44 on above 12 zeros; for the others in the high half.
 fn block_field(low: u64, high: u64, j: usize) -> u64
     requires { ⌜ j < 8 ⌝ }
-    ensures { λ r. ⌜ (r ≡ blockField (low + 2 ^ 64 * high) j) × (r < 4096) ⌝ }
+    ensures { λ r. ⌜ (r ≡ blockField (low + 2 ^ 64 * high) j) × (r < 2 ^ 12) ⌝ }
 {
     if j < 5 {
-        return ((((low >> 44) << 12) + (high << 32)) >> (12 * j)) % 4096;
+        return ((((low >> 44) << 12) + (high << 32)) >> (12 * j)) % BLOCK_FIELD;
     }
-    (high >> (12 * j - 32)) % 4096
+    (high >> (12 * j - 32)) % BLOCK_FIELD
 }
 
-// The ones before block m, as the entry of its superblock says. No other function takes an entry apart.
+// The ones before block m, as the entry of its superblock says.
 fn entry_ones(part: &[u8], m: usize) -> usize
-    requires { ⌜ 32 + 16 * (m / 8) ≤ length (now part) ⌝ }
-    ensures { λ r. ⌜ (r ≡ entryOnes (now (part .entry)) m) × (r < 17592186048512) ⌝ }
+    requires { ⌜ HasEntry (now part) m ⌝ }
+    ensures { λ r. ⌜ (r ≡ entryOnes (now (part .entry)) m) × (r < 2 ^ 44 + 2 ^ 12) ⌝ }
 {
     let at = HEAD_BYTES + ENTRY_BYTES * (m / 8);
     let low = u64_at(part, at);
     let high = u64_at(part, at + 8);
-    (low % 17592186044416 + block_field(low, high, m % 8)) as usize
+    (low % SUPERBLOCK_FIELD + block_field(low, high, m % 8)) as usize
 }
 
 // The 512 bits from byte `at` on, as eight words.
@@ -67,10 +70,10 @@ pub fn block_at(part: &[u8], at: usize) -> [u64; 8]
     block
 }
 
-// The ones of a row before position i: those before the block of position i - 1, and those in it.
+// The ones of a row before position i: those before the block of position i - 1, and those of the block before i.
 pub fn part_ones_before(part: &[u8], n: usize, i: usize) -> usize
-    requires { ⌜ (length (now part) ≡ sizeOf n) × (n ≤ 134217728) × (i ≤ n) ⌝ }
-    ensures { λ r. ⌜ (r ≤ 70368744177664) × (Right (now (part .entry)) n → r ≡ ones (cell (rowBits (now (part .entry)) n)) i) ⌝ }
+    requires { ⌜ (length (now part) ≡ sizeOf n) × (n ≤ mostRow) × (i ≤ n) ⌝ }
+    ensures { λ r. ⌜ (r ≤ 2 ^ 46) × (Right (now (part .entry)) n → r ≡ ones (cell (rowBits (now (part .entry)) n)) i) ⌝ }
 {
     if i == 0 {
         return 0;
@@ -80,17 +83,9 @@ pub fn part_ones_before(part: &[u8], n: usize, i: usize) -> usize
     entry_ones(part, m) + block_rank(&block[..], i - BLOCK_BITS * m)
 }
 
-// The ones of a row, as its record says.
-pub fn part_ones(part: &[u8]) -> usize
-    requires { ⌜ 16 ≤ length (now part) ⌝ }
-    ensures { λ r. ⌜ (r ≡ onesAt (now (part .entry)) 0) × (r < 4294967296) ⌝ }
-{
-    index_at(part, 12)
-}
-
 // The number of v before block m, as the entries say.
 fn entry_values(part: &[u8], v: u64, m: usize) -> usize
-    requires { ⌜ (32 + 16 * (m / 8) ≤ length (now part)) × (m < 262144) ⌝ }
+    requires { ⌜ HasEntry (now part) m × (blockBits * m < mostRow) ⌝ }
     ensures { λ r. ⌜ r ≡ entryValues (now (part .entry)) v m ⌝ }
 {
     of_value(v, BLOCK_BITS * m, entry_ones(part, m))
@@ -98,15 +93,15 @@ fn entry_values(part: &[u8], v: u64, m: usize) -> usize
 
 // 1 where at most k of v come before block m, as the entries say, else 0: a number, so that no branch depends on it.
 fn reached(part: &[u8], v: u64, m: usize, k: usize) -> usize
-    requires { ⌜ (32 + 16 * (m / 8) ≤ length (now part)) × (m < 262144) ⌝ }
+    requires { ⌜ HasEntry (now part) m × (blockBits * m < mostRow) ⌝ }
     ensures { λ r. ⌜ r ≡ atMost (entryValues (now (part .entry)) v) k m ⌝ }
 {
     (entry_values(part, v, m) <= k) as usize
 }
 
-// Of `count` superblocks the one with the k-th v, as the entries say: by steps of half the length each.
+// Of `count` superblocks the one with the k-th v, as the entries say: a binary search by steps of 2^14 down to 1.
 fn superblock_with(part: &[u8], count: usize, v: u64, k: usize) -> usize
-    requires { ⌜ (0 < count) × (count ≤ 32768) × (16 + 16 * count ≤ length (now part)) ⌝ }
+    requires { ⌜ (0 < count) × (superblockBits * count ≤ mostRow) × (headBytes + entryBytes * count ≤ length (now part)) ⌝ }
     ensures { λ r. ⌜ (r < count) × Halved (λ b. entryValues (now (part .entry)) v (8 * b)) count k r (r + 1) ⌝ }
 {
     let mut lo: usize = 0;
@@ -121,9 +116,9 @@ fn superblock_with(part: &[u8], count: usize, v: u64, k: usize) -> usize
     lo
 }
 
-// Of `count` blocks the one with the k-th v: in the superblock with it, by three steps more.
+// Of `count` blocks the one with the k-th v: in the superblock with it, by steps of 4, 2 and 1.
 fn block_with(part: &[u8], count: usize, v: u64, k: usize) -> usize
-    requires { ⌜ (0 < count) × (count ≤ 262144) × (16 + 16 * ((count + 7) / 8) ≤ length (now part)) ⌝ }
+    requires { ⌜ (0 < count) × (blockBits * count ≤ mostRow) × (headBytes + entryBytes * ((count + 7) / 8) ≤ length (now part)) ⌝ }
     ensures { λ r. ⌜ (r < count) × Halved (entryValues (now (part .entry)) v) count k r (r + 1) ⌝ }
 {
     let mut lo = 8 * superblock_with(part, (count + 7) / 8, v, k);
@@ -138,10 +133,10 @@ fn block_with(part: &[u8], count: usize, v: u64, k: usize) -> usize
     lo
 }
 
-// The position of the k-th v of a row, k from 0, or n where the entries lead nowhere.
+// The position of the k-th v of a row, k from 0, or n where the entries lead to none.
 pub fn part_position(part: &[u8], n: usize, v: u64, k: usize) -> usize
-    requires { ⌜ (length (now part) ≡ sizeOf n) × (0 < n) × (n ≤ 134217728) × (v ≤ 1) ⌝ }
-    ensures { λ r. ⌜ (r ≤ n) × (Right (now (part .entry)) n → k < rankOf (cell (rowBits (now (part .entry)) n)) v n → r ≡ placeIn n (selectOf (cell (rowBits (now (part .entry)) n)) n v k)) ⌝ }
+    requires { ⌜ (length (now part) ≡ sizeOf n) × (0 < n) × (n ≤ mostRow) × (v ≤ 1) ⌝ }
+    ensures { λ r. ⌜ PositionIn (now (part .entry)) n v k r ⌝ }
 {
     let m = block_with(part, (n + (BLOCK_BITS - 1)) / BLOCK_BITS, v, k);
     let said = entry_values(part, v, m);

@@ -2,7 +2,7 @@
 ghost use mathlib.Core.Path.{_≡_};
 ghost use Rattle.words.specs.Refusals.{toldOf};
 ghost use Rattle.image.specs.Calls.{rowGetTold, RowRanked, RowSelected};
-use super::bytes::index_at;
+use super::fields::length_at;
 use super::open::open_row;
 use super::open::record_part;
 use super::part::part_get;
@@ -16,10 +16,10 @@ pub fn row_get(image: &[u8], label: usize, i: usize) -> Answer
 {
     let o = open_row(image, label);
     let Answer::Value(at) = o else {
-        return o; // unchanged
+        return o; // a refusal met while opening passes through unchanged
     };
     let part = record_part(image, at as usize);
-    part_get(part, index_at(part, 8), i)
+    part_get(part, length_at(part, 0), i)
 }
 
 // row count(v, i): how many of the first i bits of the label's row equal v.
@@ -31,7 +31,7 @@ pub fn row_rank(image: &[u8], label: usize, v: u64, i: usize) -> Answer
         return o;
     };
     let part = record_part(image, at as usize);
-    part_rank(part, index_at(part, 8), v, i)
+    part_rank(part, length_at(part, 0), v, i)
 }
 
 // row find(v, k): the position in the label's row that holds v and has k of v before it.
@@ -43,5 +43,5 @@ pub fn row_select(image: &[u8], label: usize, v: u64, k: usize) -> Answer
         return o;
     };
     let part = record_part(image, at as usize);
-    part_select(part, index_at(part, 8), v, k)
+    part_select(part, length_at(part, 0), v, k)
 }

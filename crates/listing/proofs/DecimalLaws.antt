@@ -9,7 +9,7 @@ use lib.ListN.{length, length-append}
 use lib.Dec.{ltb}
 use borrow.Author.Tests.{ltb-false, lt-ltb, le-ltb}
 use Rattle.image.specs.Layout.{mostLabel, mostRow}
-use Rattle.listing.specs.Text.{digitsIn, decimal, ended, line, lineBytes}
+use Rattle.listing.specs.Text.{digitsIn, decimal, endedBy, line, lineBytes}
 
 -- nothing, or else xs
 abbrev higher : Bool → List ℕ → List ℕ
@@ -74,14 +74,14 @@ unfolding decimal
 decimal-few k n h = digits-few (suc n) k n h
 
 -- a number and the byte after it
-pub ended-long : (n last : ℕ) → length (ended n last) ≡ length (decimal n) + 1
+pub ended-long : (n last : ℕ) → length (endedBy n last) ≡ length (decimal n) + 1
 ended-long n last = length-append (decimal n) (last ∷ [])
 
 -- the three parts of a line
-pub line-parts : (label n ones : ℕ) → length (line label n ones) ≡ length (ended label 32) + (length (ended n 32) + length (ended ones 10))
+pub line-parts : (label n ones : ℕ) → length (line label n ones) ≡ length (endedBy label 32) + (length (endedBy n 32) + length (endedBy ones 10))
 line-parts label n ones =
-    length-append (ended label 32) (ended n 32 ++ ended ones 10)
-    ∙ ap (λ (k : ℕ). length (ended label 32) + k) (length-append (ended n 32) (ended ones 10))
+    length-append (endedBy label 32) (endedBy n 32 ++ endedBy ones 10)
+    ∙ ap (λ (k : ℕ). length (endedBy label 32) + k) (length-append (endedBy n 32) (endedBy ones 10))
 
 -- a label has two digits at most, a length and ones nine
 pub line-most : (label n ones : ℕ) → label ≤ mostLabel → n ≤ mostRow → ones ≤ mostRow → length (line label n ones) ≤ lineBytes

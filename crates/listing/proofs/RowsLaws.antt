@@ -1,22 +1,19 @@
 -- The lines of the rows of an image that obeys the layout: how many there are, how long each is, and the walk that writes them. Assumes nothing.
 use mathlib.Core.Path.{_≡_, refl, sym, ap, _∙_}
-use mathlib.Core.Bool.{Bool, true, false, cond, _||_}
 use mathlib.Core.List.{List, [], _∷_, _++_, append-assoc, append-nil}
 use mathlib.Core.Option.{some}
-use Prim.Native.Nat.{ℕ, zero, suc, _+_, _*_, _≤_, _<_, min}
+use Prim.Native.Nat.{ℕ, suc, _+_, _*_, _≤_, _<_, min}
 use native.Mathlib.Omega.{arith}
 use lib.ListN.{length, getD, length-append}
-use lib.Seq.{append-snoc}
-use lib.Dec.{eqb}
-use borrow.Author.Tests.{ne-eqb, eqb-true, eqb-false}
 use Rattle.words.specs.Strip.{cell, rank}
 use Rattle.words.proofs.SearchLaws.{rank-le}
 use Rattle.image.specs.Bytes.{num}
-use Rattle.image.specs.Layout.{unitBytes, mostLabel, sizeOf}
-use Rattle.image.specs.Chain.{nextAt, labelAt, lengthAt, onesAt, among, chainOf}
+use Rattle.image.specs.Layout.{unitBytes, mostRow, sizeOf}
+use Rattle.image.specs.Chain.{nextAt, labelAt, lengthAt, onesAt, chainOf}
 use Rattle.image.specs.Rows.{partAt, rowBits, RightAt, Obeys}
 use Rattle.image.specs.Calls.{recordsIn, recordsOf}
-use Rattle.image.proofs.ChainLaws.{RecordFacts, Links, links-end, links-more, links-none, chain-links, chain-facts}
+use Rattle.image.proofs.ChainLaws.{RecordFacts, chain-facts, chain-few}
+use Rattle.image.proofs.WalkLaws.{SoundWalk, Turn, walk-none, walk-turn, walk-done}
 use Rattle.image.proofs.NumberLaws.{num-taken}
 use Rattle.image.proofs.PartLaws.{row-length}
 use Rattle.image.proofs.RightLaws.{right-facts}
@@ -25,53 +22,9 @@ use Rattle.listing.specs.Working.{Put}
 use Rattle.listing.proofs.DecimalLaws.{line-most}
 use Rattle.listing.proofs.StoreLaws.{put-none, put-more, put-as}
 
--- ---- how many rows there are
--- the labels from 1 to n that are not among those met
-unfoldable free : List ℕ → ℕ → ℕ
-free met zero = 0
-free met (suc n) = free met n + cond (among (suc n) met) 0 1
-
-free-all : (n : ℕ) → free [] n ≡ n
-unfolding free among
-free-all zero = refl
-free-all (suc n) = omega (arith, free-all n)
-
--- a label past n is none of them
-free-past : (met : List ℕ) (l n : ℕ) → n < l → free (l ∷ met) n ≡ free met n
-unfolding free among
-free-past met l zero h = refl
-free-past met l (suc n) h =
-    let k : eqb (suc n) l ≡ false = ne-eqb (suc n) l (λ e. omega arith) in
-    simp (k, free-past met l n (omega arith))
-
--- a label not met takes one away
-free-more : (met : List ℕ) (l n : ℕ) → 1 ≤ l → l ≤ n → among l met ≡ false → free met n ≡ free (l ∷ met) n + 1
-unfolding free among
-free-more met l zero p q h = absurd (omega arith)
-free-more met l (suc n) p q h = go (eqb (suc n) l) refl (free-more met l n p)
-  where
-    go : (t : Bool) → eqb (suc n) l ≡ t → (l ≤ n → among l met ≡ false → free met n ≡ free (l ∷ met) n + 1)
-        → free met n + cond (among (suc n) met) 0 1 ≡ free (l ∷ met) n + cond (t || among (suc n) met) 0 1 + 1
-    go true e later =
-        let z : suc n ≡ l = eqb-true (suc n) l e in
-        let m : among (suc n) met ≡ false = ap (λ (k : ℕ). among k met) z ∙ h in
-        simp (m, free-past met l n (omega arith)) (omega arith)
-    go false e later =
-        let z : l ≤ n = omega (arith, eqb-false (suc n) l e) in
-        omega (arith, later z h)
-
--- the records of a chain have labels of their own
-links-labels : {s : List ℕ} {a : ℕ} {met rs : List ℕ} → Links s a met rs → length rs ≤ free met mostLabel
-links-labels links-end = omega arith
-links-labels {s} {a} {met} (links-more n f u k) = omega (arith, links-labels k, free-more met (labelAt s a) mostLabel (f .low) (f .high) u)
-
--- so there are at most 64
-pub chain-few : (s rs : List ℕ) → chainOf s ≡ some rs → length rs ≤ mostLabel
-chain-few s rs e = omega (arith, links-labels (chain-links s rs e .1), free-all mostLabel)
-
 -- ---- how long a line is
 -- the ones that a line tells are those of the row
-pub row-ones : (s : List ℕ) (a : ℕ) → lengthAt s a ≤ 134217728 → RightAt s a
+pub row-ones : (s : List ℕ) (a : ℕ) → lengthAt s a ≤ mostRow → RightAt s a
     → onesAt s a ≡ rank (rowBits (partAt s a) (lengthAt s a)) 1 (lengthAt s a)
 row-ones s a short right =
     let part : List ℕ = partAt s a in
@@ -124,56 +77,41 @@ unfolding rowsText
 rows-first s a rs = length-append (rowLine s a) (rowsText s rs)
 
 -- a walk that stands at byte `at`: the lines of the records walked are stored up to byte `end`
-pub record Walk (s out₀ out : List ℕ) (at end : ℕ) : Type 0 where
+pub record RowsPut (s out₀ out : List ℕ) (at end : ℕ) : Type 0 where
   pub past : List ℕ
-  pub met : List ℕ
-  pub rest : List ℕ
-  pub whole : past ++ rest ≡ recordsOf s
-  pub links : Links s at met rest
+  pub walk : SoundWalk s at past
   pub put : Put out₀ 0 (rowsText s past) out end
 
 -- where it starts
-pub walk-none : (s out : List ℕ) → Obeys s → Walk s out out (unitBytes * num s 0 4) 0
+pub rows-none : (s out : List ℕ) → Obeys s → RowsPut s out out (unitBytes * num s 0 4) 0
 unfolding rowsText
-walk-none s out o =
-    record {
-      past = [];
-      met = [];
-      rest = recordsOf s;
-      whole = refl;
-      links = chain-links s (recordsOf s) (obeys-chain s o) .1;
-      put = put-none out 0;
-    }
+rows-none s out o = record { past = []; walk = walk-none s (obeys-chain s o); put = put-none out 0 }
 
--- a turn: a sound record, room for its line, and how the walk goes on
-pub record Turn (s out₀ out : List ℕ) (at end : ℕ) : Type 0 where
-  pub facts : RecordFacts s at
-  pub room : end + length (rowLine s at) ≤ textBytes
-  pub more : (next : ℕ) (out₁ : List ℕ) (end₁ : ℕ) → next ≡ nextAt s at → Put out end (rowLine s at) out₁ end₁ → Walk s out₀ out₁ (unitBytes * next) end₁
+-- where it has not ended
+module _ {s out₀ out : List ℕ} {at end : ℕ} (w : RowsPut s out₀ out at end) (n : at ≡ 0 → ⊥) where
+  abbrev turn : Turn s at (w .past)
+  turn = walk-turn (w .walk) n
 
-turn-at : {s out₀ out : List ℕ} {at end : ℕ} {met rest : List ℕ} (past : List ℕ) → Obeys s → Links s at met rest → (at ≡ 0 → ⊥) → past ++ rest ≡ recordsOf s
-    → Put out₀ 0 (rowsText s past) out end → Turn s out₀ out at end
-turn-at past o links-end n e p = absurd (n refl)
-turn-at {s} past o (links-more {a} {met} {bs} m f u k) n e p =
-    let long = length-append (rowsText s past) (rowsText s (a ∷ bs)) in
-    let same = ap length (sym (rows-append s past (a ∷ bs)) ∙ ap (rowsText s) e) in
-    record {
-      facts = f;
-      room = omega (arith, p .end, rows-first s a bs, rows-most s o);
-      more = λ next out₁ end₁ is q.
-          record {
-            past = past ++ (a ∷ []);
-            met = labelAt s a ∷ met;
-            rest = bs;
-            whole = append-snoc past a bs ∙ e;
-            links = rw is k;
-            put = put-as _ (sym (rows-append s past (a ∷ []) ∙ ap (λ (l : List ℕ). rowsText s past ++ l) (rows-one s a))) (put-more p q);
-          };
-    }
+  -- it stands at a sound record
+  pub rows-record : RecordFacts s at
+  rows-record = turn .facts
 
-pub walk-turn : {s out₀ out : List ℕ} {at end : ℕ} → Obeys s → Walk s out₀ out at end → (at ≡ 0 → ⊥) → Turn s out₀ out at end
-walk-turn o w n = turn-at (w .past) o (w .links) n (w .whole) (w .put)
+  -- there is room for its line
+  pub rows-room : Obeys s → end + length (rowLine s at) ≤ textBytes
+  rows-room o =
+      let long = length-append (rowsText s (w .past)) (rowsText s (at ∷ turn .rest)) in
+      let same = ap length (sym (rows-append s (w .past) (at ∷ turn .rest)) ∙ ap (rowsText s) (turn .whole)) in
+      omega (arith, w .put .end, rows-first s at (turn .rest), rows-most s o)
 
-pub walk-done : {s out₀ out : List ℕ} {at end : ℕ} → Walk s out₀ out at end → at ≡ 0 → Put out₀ 0 (rowsText s (recordsOf s)) out end
-walk-done {s} w z =
-    put-as _ (ap (rowsText s) (sym (append-nil (w .past)) ∙ ap (λ (l : List ℕ). w .past ++ l) (sym (links-none (w .links) z)) ∙ w .whole)) (w .put)
+  -- and with its line the walk goes on
+  pub rows-more : (next : ℕ) (out₁ : List ℕ) (end₁ : ℕ) → next ≡ unitBytes * nextAt s at → Put out end (rowLine s at) out₁ end₁ → RowsPut s out₀ out₁ next end₁
+  rows-more next out₁ end₁ e q =
+      record {
+        past = w .past ++ (at ∷ []);
+        walk = rw e (turn .more);
+        put = put-as _ (sym (rows-append s (w .past) (at ∷ []) ∙ ap (λ (l : List ℕ). rowsText s (w .past) ++ l) (rows-one s at))) (put-more (w .put) q);
+      }
+
+-- where it ends
+pub rows-done : {s out₀ out : List ℕ} {at end : ℕ} → RowsPut s out₀ out at end → at ≡ 0 → Put out₀ 0 (rowsText s (recordsOf s)) out end
+rows-done {s} w z = put-as _ (ap (rowsText s) (walk-done (w .walk) z)) (w .put)

@@ -29,12 +29,12 @@ abbrev pub newline : ℕ
 newline = 10
 
 -- n in decimal, and a byte after it
-abbrev pub ended : ℕ → ℕ → List ℕ
-ended n last = decimal n ++ (last ∷ [])
+abbrev pub endedBy : ℕ → ℕ → List ℕ
+endedBy n last = decimal n ++ (last ∷ [])
 
 -- the line of a row: label, L, ones, in decimal
 abbrev pub line : ℕ → ℕ → ℕ → List ℕ
-line label n ones = ended label space ++ (ended n space ++ ended ones newline)
+line label n ones = endedBy label space ++ (endedBy n space ++ endedBy ones newline)
 
 -- that of the record at byte a
 abbrev pub rowLine : List ℕ → ℕ → List ℕ
@@ -47,7 +47,7 @@ rowsText s (a ∷ rs) = rowLine s a ++ rowsText s rs
 
 -- `refused ` and the number
 abbrev pub refusedLine : ℕ → List ℕ
-refusedLine n = (114 ∷ 101 ∷ 102 ∷ 117 ∷ 115 ∷ 101 ∷ 100 ∷ space ∷ []) ++ ended n newline
+refusedLine n = (114 ∷ 101 ∷ 102 ∷ 117 ∷ 115 ∷ 101 ∷ 100 ∷ space ∷ []) ++ endedBy n newline
 
 -- `too long`
 abbrev pub tooLongLine : List ℕ

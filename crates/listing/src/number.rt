@@ -2,7 +2,7 @@
 ghost use mathlib.Core.Path.{_≡_};
 ghost use Prim.Native.Nat.{_+_, _<_, _≤_};
 ghost use lib.ListN.{length};
-ghost use Rattle.listing.specs.Text.{decimal, ended};
+ghost use Rattle.listing.specs.Text.{decimal, endedBy};
 ghost use Rattle.listing.specs.Working.{Put};
 
 // The ASCII digit of d.
@@ -28,8 +28,8 @@ fn put_decimal(out: &mut [u8], at: usize, v: u64) -> usize
 
 // v in decimal and a byte after it, from byte `at` on; answers where they end.
 pub fn put_ended(out: &mut [u8], at: usize, v: u64, byte: u8) -> usize
-    requires { ⌜ at + length (ended v byte) ≤ length (now out) ⌝ }
-    ensures { λ r. ⌜ Put (now (out .entry)) at (ended v byte) (now (out .exit)) r ⌝ }
+    requires { ⌜ at + length (endedBy v byte) ≤ length (now out) ⌝ }
+    ensures { λ r. ⌜ Put (now (out .entry)) at (endedBy v byte) (now (out .exit)) r ⌝ }
 {
     let last = put_decimal(out, at, v);
     out[last] = byte;

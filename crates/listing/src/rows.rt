@@ -3,16 +3,19 @@ ghost use mathlib.Core.Path.{_≡_};
 ghost use Prim.Native.Nat.{_+_, _≤_};
 ghost use lib.ListN.{length};
 ghost use Rattle.words.specs.Refusals.{numberOf};
+ghost use Rattle.image.specs.Layout.{headBytes};
 ghost use Rattle.image.specs.Rows.{Obeys};
 ghost use Rattle.image.specs.Calls.{recordsOf};
 ghost use Rattle.listing.specs.Text.{rowLine, rowsText, refusedLine, tooLongLine, textOf, textBytes, writtenOf, outcome, listingOutcome};
 ghost use Rattle.listing.specs.Working.{Put};
 use super::number::put_ended;
-use image::bytes::index_at;
-use image::bytes::u32_at;
+use image::fields::first_record;
+use image::fields::label_at;
+use image::fields::length_at;
+use image::fields::next_record;
+use image::fields::ones_at;
 use image::inspect::inspect;
 use image::layout::MOST_LABEL;
-use image::layout::UNIT_BYTES;
 use image::put::put_bytes;
 use words::refusal::Answer;
 use words::refusal::Refusal;
@@ -33,12 +36,12 @@ pub enum Listed {
 
 // The line of the record at byte `at` of the image, from byte `end` of `out` on; answers where it ends.
 fn put_line(image: &[u8], at: usize, out: &mut [u8], end: usize) -> usize
-    requires { ⌜ (at + 16 ≤ length (now image)) × (end + length (rowLine (now image) at) ≤ length (now out)) ⌝ }
+    requires { ⌜ (at + headBytes ≤ length (now image)) × (end + length (rowLine (now image) at) ≤ length (now out)) ⌝ }
     ensures { λ r. ⌜ Put (now (out .entry)) end (rowLine (now (image .entry)) at) (now (out .exit)) r ⌝ }
 {
-    let label_end = put_ended(out, end, u32_at(image, at + 4), b' ');
-    let length_end = put_ended(out, label_end, u32_at(image, at + 8), b' ');
-    put_ended(out, length_end, u32_at(image, at + 12), b'\n')
+    let label_end = put_ended(out, end, label_at(image, at) as u64, b' ');
+    let length_end = put_ended(out, label_end, length_at(image, at) as u64, b' ');
+    put_ended(out, length_end, ones_at(image, at) as u64, b'\n')
 }
 
 // The lines of all rows, in chain order; answers where they end.
@@ -46,11 +49,11 @@ fn put_rows(image: &[u8], out: &mut [u8]) -> usize
     requires { ⌜ Obeys (now image) × (textBytes ≤ length (now out)) ⌝ }
     ensures { λ r. ⌜ Put (now (out .entry)) 0 (rowsText (now (image .entry)) (recordsOf (now (image .entry)))) (now (out .exit)) r ⌝ }
 {
-    let mut at = UNIT_BYTES * index_at(image, 0);
+    let mut at = first_record(image);
     let mut end: usize = 0;
     while at != 0 {
         end = put_line(image, at, out, end);
-        at = UNIT_BYTES * index_at(image, at);
+        at = next_record(image, at);
     }
     end
 }

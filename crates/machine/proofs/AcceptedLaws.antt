@@ -18,17 +18,18 @@ use Rattle.counters.specs.Tree.{blocksOf, counterCount, differ}
 use Rattle.counters.specs.Record.{builtCounters}
 use Rattle.counters.specs.Calls.{checks, pushTable, flipTable}
 use Rattle.counters.proofs.NumberLaws.{flip-number}
-use Rattle.machine.specs.Machine.{State, Call, push, flip, accepted, refuses, handleOf, withStrip, changes, flipped, move, run}
+use Rattle.machine.specs.Machine.{StripState, ShelfState, state, push, flip, accepted, refuses, handleIn, withStrip, changes, flipped, stripMove, run}
+use Rattle.machine.specs.Examples.{adds}
 
--- a machine with an allowed capacity and the words and counters that it needs
-pub record Sized (s : State) : Type 0 where
-  pub capacity : allowed (s .capacity) ≡ true
-  pub words : s .words ≡ wordsOf (s .capacity)
-  pub counters : s .counters ≡ counterCount (blocksOf (s .capacity))
+-- an allowed capacity with the words and counters that it needs
+pub record Sized (a : StripState) : Type 0 where
+  pub capacity : allowed (a .capacity) ≡ true
+  pub words : a .words ≡ wordsOf (a .capacity)
+  pub counters : a .counters ≡ counterCount (blocksOf (a .capacity))
 
--- with another strip it is one too
-sized-with : (s : State) (t : List ℕ) → Sized s → Sized (withStrip s t)
-sized-with s t z = record { capacity = z .capacity; words = z .words; counters = z .counters }
+-- with another strip too
+sized-with : (a : StripState) (t : List ℕ) → Sized a → Sized (withStrip a t)
+sized-with a t z = record { capacity = z .capacity; words = z .words; counters = z .counters }
 
 -- three tests that hold: no refusal
 three-pass : (a b d : Bool) → a ≡ true → b ≡ true → d ≡ true
@@ -36,31 +37,32 @@ three-pass : (a b d : Bool) → a ≡ true → b ≡ true → d ≡ true
 three-pass a b d p q r = simp (p, q, r)
 
 -- the checks of all strip calls pass
-checks-pass : (s : State) → Sized s → length (s .strip) ≤ s .capacity → judge (checks (handleOf s) (s .words) (s .counters)) ≡ none
-checks-pass s z long =
-    three-pass (good (handleOf s)) (eqb (s .words) (wordsOf (s .capacity))) (eqb (s .counters) (counterCount (blocksOf (s .capacity))))
-    (and-intro (z .capacity) (le-leb (length (s .strip)) (s .capacity) long)) (eq-eqb _ _ (z .words)) (eq-eqb _ _ (z .counters))
+checks-pass : (a : StripState) → Sized a → length (a .strip) ≤ a .capacity → judge (checks (handleIn a) (a .words) (a .counters)) ≡ none
+checks-pass a z long =
+    three-pass (good (handleIn a)) (eqb (a .words) (wordsOf (a .capacity))) (eqb (a .counters) (counterCount (blocksOf (a .capacity))))
+    (and-intro (z .capacity) (le-leb (length (a .strip)) (a .capacity) long)) (eq-eqb _ _ (z .words)) (eq-eqb _ _ (z .counters))
 
 -- then the lines after them decide
-lines-decide : (s : State) (lines : List Line) → Sized s → length (s .strip) ≤ s .capacity
-    → judge (checks (handleOf s) (s .words) (s .counters) ++ lines) ≡ judge lines
-lines-decide s lines z long = rw (judge-append, checks-pass s z long)
+lines-decide : (a : StripState) (lines : List Line) → Sized a → length (a .strip) ≤ a .capacity
+    → judge (checks (handleIn a) (a .words) (a .counters) ++ lines) ≡ judge lines
+lines-decide a lines z long = rw (judge-append, checks-pass a z long)
 
 -- ---- add
 -- a bit that there is room for
-push-pass : (s : State) (v : ℕ) → Sized s → length (s .strip) < s .capacity → v ≤ 1
-    → judge (pushTable (handleOf s) (s .words) (s .counters) v) ≡ none
-push-pass s v z room bit =
-    lines-decide s (valueLine v ∷ (leb (s .capacity) (length (s .strip)) ⇒ 7) ∷ []) z (omega arith)
-    ∙ simp (le-ltb 1 v bit, lt-leb (s .capacity) (length (s .strip)) room)
+push-pass : (a : StripState) (v : ℕ) → Sized a → length (a .strip) < a .capacity → v ≤ 1
+    → judge (pushTable (handleIn a) (a .words) (a .counters) v) ≡ none
+push-pass a v z room bit =
+    lines-decide a (valueLine v ∷ (leb (a .capacity) (length (a .strip)) ⇒ 7) ∷ []) z (omega arith)
+    ∙ simp (le-ltb 1 v bit, lt-leb (a .capacity) (length (a .strip)) room)
 
 -- is appended
-pub add-next : (s : State) (v : ℕ) → Sized s → length (s .strip) < s .capacity → v ≤ 1 → move s (push v) .next ≡ withStrip s (s .strip ++ (v ∷ []))
-add-next s v z room bit =
+pub add-next : (a : StripState) (v : ℕ) → Sized a → length (a .strip) < a .capacity → v ≤ 1
+    → stripMove a (push v) .next ≡ withStrip a (a .strip ++ (v ∷ []))
+add-next a v z room bit =
     ap (λ (o : Option ℕ).
-    unless o (refuses s)
-    (accepted (withStrip s (s .strip ++ (v ∷ []))) (length (s .strip)) (cond (eqb v 1) (changes s (length (s .strip))) 0)) .next)
-    (push-pass s v z room bit)
+    unless o (refuses a)
+    (accepted (withStrip a (a .strip ++ (v ∷ []))) (length (a .strip)) (cond (eqb v 1) (changes a (length (a .strip))) 0)) .next)
+    (push-pass a v z room bit)
 
 -- a list of bits, by a test of each
 abbrev pub allBits : List ℕ → Bool
@@ -72,42 +74,37 @@ bits-of [] h p = omega arith
 bits-of (v ∷ vs) h zero = leb-true v 1 (and-first (leb v 1) (allBits vs) h)
 bits-of (v ∷ vs) h (suc p) = bits-of vs (and-second (leb v 1) (allBits vs) h) p
 
--- the calls that add a strip's bits, in order
-abbrev pub adds : List ℕ → List Call
-adds [] = []
-adds (v ∷ vs) = push v ∷ adds vs
-
--- a strip that there is room for is appended by them
-pub adds-next : (s : State) (t : List ℕ) → Sized s → ((p : ℕ) → cell t p ≤ 1) → length (s .strip) + length t ≤ s .capacity
-    → run s (adds t) ≡ withStrip s (s .strip ++ t)
-adds-next s [] z bits room = ap (withStrip s) (sym (append-nil (s .strip)))
-adds-next s (v ∷ vs) z bits room =
-    ap (λ (x : State). run x (adds vs)) (add-next s v z (omega arith) (bits 0))
-    ∙ adds-next (withStrip s (s .strip ++ (v ∷ []))) vs (sized-with s (s .strip ++ (v ∷ [])) z) (λ p. bits (suc p)) (omega (arith, length-append (s .strip) (v ∷ [])))
-    ∙ ap (withStrip s) (append-assoc (s .strip) (v ∷ []) vs)
+-- a strip that there is room for is appended by adds, and the shelf stays
+pub adds-next : (a : StripState) (b : ShelfState) (t : List ℕ) → Sized a → ((p : ℕ) → cell t p ≤ 1) → length (a .strip) + length t ≤ a .capacity
+    → run (state a b) (adds t) ≡ state (withStrip a (a .strip ++ t)) b
+adds-next a b [] z bits room = ap (λ (u : List ℕ). state (withStrip a u) b) (sym (append-nil (a .strip)))
+adds-next a b (v ∷ vs) z bits room =
+    ap (λ (x : StripState). run (state x b) (adds vs)) (add-next a v z (omega arith) (bits 0))
+    ∙ adds-next (withStrip a (a .strip ++ (v ∷ []))) b vs (sized-with a (a .strip ++ (v ∷ [])) z) (λ p. bits (suc p)) (omega (arith, length-append (a .strip) (v ∷ [])))
+    ∙ ap (λ (u : List ℕ). state (withStrip a u) b) (append-assoc (a .strip) (v ∷ []) vs)
 
 -- ---- turn
 -- a stroke that is there
-flip-pass : (s : State) (i : ℕ) → Sized s → length (s .strip) ≤ s .capacity → i < length (s .strip)
-    → judge (flipTable (handleOf s) (s .words) (s .counters) i) ≡ none
-flip-pass s i z long below =
-    lines-decide s (belowLine (length (s .strip)) i ∷ []) z long ∙ simp (lt-leb (length (s .strip)) i below)
+flip-pass : (a : StripState) (i : ℕ) → Sized a → length (a .strip) ≤ a .capacity → i < length (a .strip)
+    → judge (flipTable (handleIn a) (a .words) (a .counters) i) ≡ none
+flip-pass a i z long below =
+    lines-decide a (belowLine (length (a .strip)) i ∷ []) z long ∙ simp (lt-leb (length (a .strip)) i below)
 
 -- its new bit b and the number d of counters are answered
-pub turn-answer : (s : State) (i b d : ℕ) → Sized s → length (s .strip) ≤ s .capacity → i < length (s .strip) → 1 - cell (s .strip) i ≡ b → changes s i ≡ d
-    → move s (flip i) ≡ accepted (withStrip s (flipped (s .strip) i)) b d
-turn-answer s i b d z long below bit number =
-    ap (λ (o : Option ℕ). unless o (refuses s) (accepted (withStrip s (flipped (s .strip) i)) (1 - cell (s .strip) i) (changes s i)))
-    (flip-pass s i z long below)
-    ∙ ap₂ (λ (x y : ℕ). accepted (withStrip s (flipped (s .strip) i)) x y) bit number
+pub turn-answer : (a : StripState) (i b d : ℕ) → Sized a → length (a .strip) ≤ a .capacity → i < length (a .strip) → 1 - cell (a .strip) i ≡ b → changes a i ≡ d
+    → stripMove a (flip i) ≡ accepted (withStrip a (flipped (a .strip) i)) b d
+turn-answer a i b d z long below bit number =
+    ap (λ (o : Option ℕ). unless o (refuses a) (accepted (withStrip a (flipped (a .strip) i)) (1 - cell (a .strip) i) (changes a i)))
+    (flip-pass a i z long below)
+    ∙ ap₂ (λ (x y : ℕ). accepted (withStrip a (flipped (a .strip) i)) x y) bit number
 
 -- and d of the counters laid afresh differ
-pub turn-number : (s : State) (i d : ℕ) → Sized s → length (s .strip) ≤ s .capacity → i < length (s .strip) → cell (s .strip) i ≤ 1 → changes s i ≡ d
-    → differ (builtCounters (s .capacity) (s .strip)) (builtCounters (s .capacity) (flipped (s .strip) i)) (s .counters) ≡ d
-turn-number s i d z long below bit number =
-    ap (differ (builtCounters (s .capacity) (s .strip)) (builtCounters (s .capacity) (flipped (s .strip) i))) (z .counters)
-    ∙ flip-number (s .capacity) (s .strip) i whole long below bit
+pub turn-number : (a : StripState) (i d : ℕ) → Sized a → length (a .strip) ≤ a .capacity → i < length (a .strip) → cell (a .strip) i ≤ 1 → changes a i ≡ d
+    → differ (builtCounters (a .capacity) (a .strip)) (builtCounters (a .capacity) (flipped (a .strip) i)) (a .counters) ≡ d
+turn-number a i d z long below bit number =
+    ap (differ (builtCounters (a .capacity) (a .strip)) (builtCounters (a .capacity) (flipped (a .strip) i))) (z .counters)
+    ∙ flip-number (a .capacity) (a .strip) i whole long below bit
     ∙ number
   where
-    whole : s .capacity % 512 ≡ 0
-    whole = eqb-true _ _ (and-first (eqb (s .capacity % blockBits) 0) _ (z .capacity))
+    whole : a .capacity % 512 ≡ 0
+    whole = eqb-true _ _ (and-first (eqb (a .capacity % blockBits) 0) _ (z .capacity))

@@ -1,97 +1,87 @@
 -- Demand 3 over every list of calls: from an accepted lay and clear, by the calls' own promises. Assumes nothing.
-use mathlib.Core.Path.{_≡_, refl, sym, ap, _∙_, subst}
-use mathlib.Core.List.{[], _++_}
+use mathlib.Core.Path.{_≡_, refl, sym, ap, ap₂, _∙_}
+use mathlib.Core.List.{List, [], _++_}
 use mathlib.Core.Option.{Option, some, none}
 use Prim.Native.Nat.{ℕ}
 use native.Mathlib.Omega.{arith}
-use lib.ListN.{length, drop, replicate}
+use lib.ListN.{length, drop}
 use Rattle.words.specs.Refusals.{judge, unless, value, refused}
-use Rattle.words.specs.Handles.{handle}
+use Rattle.words.specs.Handles.{handleOf}
 use Rattle.counters.specs.Tree.{blocksOf, counterCount}
-use Rattle.counters.specs.Record.{packedWords, builtCounters}
-use Rattle.counters.specs.Promises.{CreatedTold, created, uncreated, Outcome, outcome}
-use Rattle.counters.specs.Calls.{checks, createOutcome}
+use Rattle.counters.specs.Record.{StripRecord, packedWords, builtCounters, builtRecord}
+use Rattle.counters.specs.Promises.{created, uncreated, outcome}
+use Rattle.counters.specs.Calls.{checks}
 use Rattle.image.specs.Layout.{unitBytes}
 use Rattle.image.specs.Chain.{headerOf}
-use Rattle.image.specs.Written.{written}
-use Rattle.image.specs.Calls.{clearTable, clearOutcome, ImageOutcome, imageOutcome}
-use Rattle.machine.specs.Machine.{State, create, clear}
-use Rattle.machine.specs.Driver.{Held, held, afresh, Stepped, after, reply, byCreated, byImage, Acted, Opens, create-first, clear-first, start, Turns, EveryList}
+use Rattle.image.specs.Shelf.{written}
+use Rattle.image.specs.Calls.{clearTable, imageOutcome}
+use Rattle.machine.specs.Machine.{create, clear, Step, accepted, through}
+use Rattle.machine.specs.Unit.{UnitState, unitState, afresh, byCreated, StripActed, ShelfActed, byImage}
+use Rattle.machine.specs.Demand.{Opens, create-first, clear-first, startOf, EveryList, EveryOpening}
 use Rattle.machine.proofs.StateLaws.{Good, opened-good, created-is, cleared-is}
-use Rattle.machine.proofs.ListLaws.{numbered, every-list, every-turn}
+use Rattle.machine.proofs.StripStepLaws.{numbered}
+use Rattle.machine.proofs.ListLaws.{every-list, every-turn}
 
--- an accepted lay: its table passed, and it left the words and counters of an empty strip
-accepted-create : (c : ℕ) (x : Held) (y : Stepped) → Acted (create c) x y → y .reply .refusal ≡ 0
-    → (judge (checks (handle c 0) (length (x .words)) (length (x .counters))) ≡ none)
-    × (after y ≡ held (handle c 0) (packedWords c []) (builtCounters c []) (x .image))
-accepted-create c x y a z = go (judge (checks (handle c 0) (length (x .words)) (length (x .counters)))) refl
+-- an accepted lay: its table passed, and it left the record of an empty strip
+accepted-create : (c : ℕ) (r : StripRecord) (y : Step StripRecord) → StripActed (create c) r y → y .refusal ≡ 0
+    → (judge (checks (handleOf c []) (length (r .words)) (length (r .counters))) ≡ none) × (y .next ≡ builtRecord c [])
+accepted-create c r y a z = go (judge (checks (handleOf c []) (length (r .words)) (length (r .counters)))) refl
   where
-    outcomes : Option ℕ → Outcome CreatedTold
-    outcomes o =
-        unless o (λ n. outcome (uncreated n) (x .words) (x .counters))
-        (outcome (created (handle c 0) (counterCount (blocksOf c))) (replicate (length (x .words)) 0) (replicate (length (x .counters)) 0))
+    by : Option ℕ → Step StripRecord
+    by o =
+        byCreated (r .handle)
+        (unless o (λ n. outcome (uncreated n) (r .words) (r .counters))
+        (outcome (created (handleOf c []) (counterCount (blocksOf c))) (packedWords c []) (builtCounters c [])))
 
-    go : (o : Option ℕ) → judge (checks (handle c 0) (length (x .words)) (length (x .counters))) ≡ o
-        → (judge (checks (handle c 0) (length (x .words)) (length (x .counters))) ≡ none)
-        × (after y ≡ held (handle c 0) (packedWords c []) (builtCounters c []) (x .image))
-    go none p = (p, ap after a ∙ ap (λ (o : Outcome CreatedTold). after (byCreated x o)) (created-is c (x .words) (x .counters) p))
+    go : (o : Option ℕ) → judge (checks (handleOf c []) (length (r .words)) (length (r .counters))) ≡ o
+        → (judge (checks (handleOf c []) (length (r .words)) (length (r .counters))) ≡ none) × (y .next ≡ builtRecord c [])
+    go none p = (p, ap (λ (q : Step StripRecord). q .next) (a ∙ ap by p))
     go (some n) p =
         absurd
-        (numbered (checks (handle c 0) (length (x .words)) (length (x .counters))) (λ e. omega arith, (λ e. omega arith, (λ e. omega arith, tt))) n p
-        (sym (ap (λ (q : Stepped). q .reply .refusal) a ∙ ap (λ (o : Option ℕ). byCreated x (outcomes o) .reply .refusal) p) ∙ z))
+        (numbered (checks (handleOf c []) (length (r .words)) (length (r .counters))) (λ e. omega arith, (λ e. omega arith, (λ e. omega arith, tt))) n p
+        (sym (ap (λ (q : Step StripRecord). q .refusal) (a ∙ ap by p)) ∙ z))
 
 -- an accepted clear: its table passed, and it left no row, over the bytes lent
-accepted-clear : (x : Held) (y : Stepped) → Acted clear x y → y .reply .refusal ≡ 0
-    → (judge (clearTable (length (x .image))) ≡ none) × (after y ≡ held (x .handle) (x .words) (x .counters) (written [] (x .image)))
-accepted-clear x y a z = go (judge (clearTable (length (x .image)))) refl
+accepted-clear : (r : StripRecord) (im : List ℕ) (y : Step (List ℕ)) → ShelfActed clear r im y → y .refusal ≡ 0
+    → (judge (clearTable (length im)) ≡ none) × (y .next ≡ written [] im)
+accepted-clear r im y a z = go (judge (clearTable (length im))) refl
   where
-    go : (o : Option ℕ) → judge (clearTable (length (x .image))) ≡ o
-        → (judge (clearTable (length (x .image))) ≡ none) × (after y ≡ held (x .handle) (x .words) (x .counters) (written [] (x .image)))
-    go none p = (p, ap after a ∙ ap (λ (o : ImageOutcome). after (byImage x o)) (cleared-is (x .image) p))
+    go : (o : Option ℕ) → judge (clearTable (length im)) ≡ o → (judge (clearTable (length im)) ≡ none) × (y .next ≡ written [] im)
+    go none p = (p, ap (λ (q : Step (List ℕ)). q .next) (a ∙ ap byImage (cleared-is im p)))
     go (some n) p =
         absurd
-        (numbered (clearTable (length (x .image))) (λ e. omega arith, tt) n p
-        (sym (ap (λ (q : Stepped). q .reply .refusal) a
-        ∙ ap (λ (o : Option ℕ). byImage x (unless o (λ k. imageOutcome (refused k) (x .image)) (imageOutcome (value unitBytes) (headerOf 0 ++ drop unitBytes (x .image)))) .reply .refusal) p) ∙ z))
+        (numbered (clearTable (length im)) (λ e. omega arith, tt) n p
+        (sym (ap (λ (q : Step (List ℕ)). q .refusal)
+        (a ∙ ap (λ (o : Option ℕ). byImage (unless o (λ k. imageOutcome (refused k) im) (imageOutcome (value unitBytes) (headerOf 0 ++ drop unitBytes im)))) p))
+        ∙ z))
 
 -- both, in either order: the opened machine is good, and its state laid afresh is what they left
-opened : (c : ℕ) (x y : Held) → Opens c x y
-    → Good (start c (x .words) (x .counters) (x .image)) × (y ≡ afresh (start c (x .words) (x .counters) (x .image)))
+pub opened : (c : ℕ) (x y : UnitState) → Opens c x y → Good (startOf c x) × (y ≡ afresh (startOf c x))
 opened c x _ (create-first y z a p b q) =
-    let l = accepted-create c x y a p in
-    let k = accepted-clear (after y) z b q in
-    let passes : judge (clearTable (length (x .image))) ≡ none = ap (λ (u : Held). judge (clearTable (length (u .image)))) (sym (l .1)) ∙ k .0 in (
-      opened-good c (x .words) (x .counters) (x .image) (l .0) passes,
-      k .1 ∙ ap (λ (u : Held). held (u .handle) (u .words) (u .counters) (written [] (u .image))) (l .1),
+    let l = accepted-create c (x .strip) (through (λ u. u .strip) y) (a .0) p in
+    let k = accepted-clear (y .next .strip) (y .next .image) (through (λ u. u .image) z) (b .0) q in
+    let passes : judge (clearTable (length (x .image))) ≡ none = ap (λ (im : List ℕ). judge (clearTable (length im))) (sym (a .1)) ∙ k .0 in (
+      opened-good c (x .strip .words) (x .strip .counters) (x .image) (l .0) passes,
+      ap₂ (λ (r : StripRecord) (im : List ℕ). unitState r im) (b .1 ∙ l .1) (k .1 ∙ ap (written []) (a .1)),
     )
 opened c x _ (clear-first y z a p b q) =
-    let k = accepted-clear x y a p in
-    let l = accepted-create c (after y) z b q in
-    let passes : judge (checks (handle c 0) (length (x .words)) (length (x .counters))) ≡ none =
-    ap (λ (u : Held). judge (checks (handle c 0) (length (u .words)) (length (u .counters)))) (sym (k .1)) ∙ l .0 in (
-      opened-good c (x .words) (x .counters) (x .image) passes (k .0),
-      l .1 ∙ ap (λ (u : Held). held (handle c 0) (packedWords c []) (builtCounters c []) (u .image)) (k .1),
+    let k = accepted-clear (x .strip) (x .image) (through (λ u. u .image) y) (a .0) p in
+    let l = accepted-create c (y .next .strip) (through (λ u. u .strip) z) (b .0) q in
+    let passes : judge (checks (handleOf c []) (length (x .strip .words)) (length (x .strip .counters))) ≡ none =
+    ap (λ (r : StripRecord). judge (checks (handleOf c []) (length (r .words)) (length (r .counters)))) (sym (a .1)) ∙ l .0 in (
+      opened-good c (x .strip .words) (x .strip .counters) (x .image) passes (k .0),
+      ap₂ (λ (r : StripRecord) (im : List ℕ). unitState r im) (l .1) (b .1 ∙ k .1),
     )
 
 -- the statement
 pub every-opened-list : EveryList
 every-opened-list c x y z ks out o t =
     let g = opened c x y o in
-    let s : State = start c (x .words) (x .counters) (x .image) in (
-      every-list t s (g .0) (g .1) .same,
-      subst (λ (u : Held). Turns u ks) (sym (g .1)) (every-turn s (g .0) ks),
-    )
+    (every-list t (startOf c x) (g .0) (g .1) .same, every-turn t (startOf c x) (g .0) (g .1))
 
 -- and the premise is had: where both tables pass, lay and clear lead to the opened machine's state laid afresh, from any handle
-pub accepted-opens : (c : ℕ) (x : Held) → judge (checks (handle c 0) (length (x .words)) (length (x .counters))) ≡ none
-    → judge (clearTable (length (x .image))) ≡ none → Opens c x (afresh (start c (x .words) (x .counters) (x .image)))
+pub accepted-opens : EveryOpening
 accepted-opens c x p q =
-    let y : Stepped = byCreated x (createOutcome c (x .words) (x .counters)) in
-    let z : Stepped = byImage (after y) (clearOutcome (x .image)) in
-    let l = created-is c (x .words) (x .counters) p in
-    let k = cleared-is (x .image) q in
-    let o : Opens c x (after z) =
-    create-first y z refl (ap (λ (u : Outcome CreatedTold). byCreated x u .reply .refusal) l) refl
-    (ap (λ (u : ImageOutcome). byImage (after y) u .reply .refusal) k) in
-    subst (λ (u : Held). Opens c x u)
-    (λ i. after (byImage (after (byCreated x (l i))) (k i))) o
+    create-first (accepted (unitState (builtRecord c []) (x .image)) (counterCount (blocksOf c)) 0) (accepted (afresh (startOf c x)) unitBytes 0)
+    (sym (ap (byCreated (x .strip .handle)) (created-is c (x .strip .words) (x .strip .counters) p)), refl) refl
+    (sym (ap byImage (cleared-is (x .image) q)), refl) refl

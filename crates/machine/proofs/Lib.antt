@@ -1,6 +1,6 @@
 pub mod StateLaws
 pub mod StripStepLaws
-pub mod ImageStepLaws
+pub mod ShelfStepLaws
 pub mod TurnLaws
 pub mod ListLaws
 pub mod DemandLaws
@@ -9,5 +9,6 @@ pub mod ArmLaws
 pub mod LoopLaws
 pub mod OpeningLaws
 pub mod ExecuteLaws
+pub mod AllowedLaws
 pub mod AcceptedLaws
-pub mod Examples
+pub mod ExampleLaws

@@ -1,32 +1,33 @@
 -- Scripts and lists of calls: every list of calls whose arguments have 64 bits is the decoding of a script of 64-bit numbers. Assumes nothing.
 use mathlib.Core.Path.{_≡_, refl, ap, _∙_}
 use mathlib.Core.List.{List, [], _∷_}
-use Prim.Native.Nat.{ℕ, suc, _/_, _^_, _<_}
+use Prim.Native.Nat.{ℕ, suc, _^_, _<_}
 use native.Mathlib.Omega.{arith}
 use lib.Dec.{lit<}
 use lib.ListN.{length}
-use Rattle.machine.specs.Machine.{Call, create, push, flip, fill, truncate, get, rank, select, successor, predecessor, verify, clear, freeze, inspect, rowRank, rowSelect, rowGet}
+use Rattle.machine.specs.Machine.{create, push, flip, fill, truncate, get, rank, select, successor, predecessor, verify, clear, freeze, inspect, rowRank, rowSelect, rowGet, Call, onStrip, onShelf}
 use Rattle.machine.specs.Scripts.{decode, encoded, encode}
+use Rattle.machine.specs.Runner.{callsIn}
 
 -- a call's four numbers name it
 decode-call : (k : Call) (l : List ℕ) → decode (encoded k l) ≡ k ∷ decode l
-decode-call (create c) l = refl
-decode-call (push v) l = refl
-decode-call (flip i) l = refl
-decode-call (fill a b v) l = refl
-decode-call (truncate n) l = refl
-decode-call (get i) l = refl
-decode-call (rank v i) l = refl
-decode-call (select v k) l = refl
-decode-call (successor v i) l = refl
-decode-call (predecessor v i) l = refl
-decode-call verify l = refl
-decode-call clear l = refl
-decode-call (freeze label) l = refl
-decode-call inspect l = refl
-decode-call (rowRank label v i) l = refl
-decode-call (rowSelect label v k) l = refl
-decode-call (rowGet label i) l = refl
+decode-call (onStrip (create c)) l = refl
+decode-call (onStrip (push v)) l = refl
+decode-call (onStrip (flip i)) l = refl
+decode-call (onStrip (fill a b v)) l = refl
+decode-call (onStrip (truncate n)) l = refl
+decode-call (onStrip (get i)) l = refl
+decode-call (onStrip (rank v i)) l = refl
+decode-call (onStrip (select v k)) l = refl
+decode-call (onStrip (successor v i)) l = refl
+decode-call (onStrip (predecessor v i)) l = refl
+decode-call (onStrip verify) l = refl
+decode-call (onShelf clear) l = refl
+decode-call (onShelf (freeze label)) l = refl
+decode-call (onShelf inspect) l = refl
+decode-call (onShelf (rowRank label v i)) l = refl
+decode-call (onShelf (rowSelect label v k)) l = refl
+decode-call (onShelf (rowGet label i)) l = refl
 
 -- every list of calls is the decoding of its script
 pub decode-encode : (ks : List Call) → decode (encode ks) ≡ ks
@@ -34,7 +35,7 @@ decode-encode [] = refl
 decode-encode (k ∷ ks) = decode-call k (encode ks) ∙ ap (λ (l : List Call). k ∷ l) (decode-encode ks)
 
 -- a script names as many calls as it has whole fours
-pub decode-length : (script : List ℕ) → length (decode script) ≡ length script / 4
+pub decode-length : (script : List ℕ) → length (decode script) ≡ callsIn script
 decode-length [] = refl
 decode-length (op ∷ []) = refl
 decode-length (op ∷ x ∷ []) = refl
@@ -52,23 +53,23 @@ Narrow x = x < 2 ^ 64
 
 -- a call whose arguments are such
 abbrev pub NarrowCall : Call → Type 0
-NarrowCall (create c) = Narrow c
-NarrowCall (push v) = Narrow v
-NarrowCall (flip i) = Narrow i
-NarrowCall (fill a b v) = Narrow a × Narrow b × Narrow v
-NarrowCall (truncate n) = Narrow n
-NarrowCall (get i) = Narrow i
-NarrowCall (rank v i) = Narrow v × Narrow i
-NarrowCall (select v k) = Narrow v × Narrow k
-NarrowCall (successor v i) = Narrow v × Narrow i
-NarrowCall (predecessor v i) = Narrow v × Narrow i
-NarrowCall verify = Unit
-NarrowCall clear = Unit
-NarrowCall (freeze label) = Narrow label
-NarrowCall inspect = Unit
-NarrowCall (rowRank label v i) = Narrow label × Narrow v × Narrow i
-NarrowCall (rowSelect label v k) = Narrow label × Narrow v × Narrow k
-NarrowCall (rowGet label i) = Narrow label × Narrow i
+NarrowCall (onStrip (create c)) = Narrow c
+NarrowCall (onStrip (push v)) = Narrow v
+NarrowCall (onStrip (flip i)) = Narrow i
+NarrowCall (onStrip (fill a b v)) = Narrow a × Narrow b × Narrow v
+NarrowCall (onStrip (truncate n)) = Narrow n
+NarrowCall (onStrip (get i)) = Narrow i
+NarrowCall (onStrip (rank v i)) = Narrow v × Narrow i
+NarrowCall (onStrip (select v k)) = Narrow v × Narrow k
+NarrowCall (onStrip (successor v i)) = Narrow v × Narrow i
+NarrowCall (onStrip (predecessor v i)) = Narrow v × Narrow i
+NarrowCall (onStrip verify) = Unit
+NarrowCall (onShelf clear) = Unit
+NarrowCall (onShelf (freeze label)) = Narrow label
+NarrowCall (onShelf inspect) = Unit
+NarrowCall (onShelf (rowRank label v i)) = Narrow label × Narrow v × Narrow i
+NarrowCall (onShelf (rowSelect label v k)) = Narrow label × Narrow v × Narrow k
+NarrowCall (onShelf (rowGet label i)) = Narrow label × Narrow i
 
 -- a call of one, two or three arguments, under an opcode
 module _ {l : List ℕ} (rest : Each Narrow l) (op : ℕ) (o : Narrow op) where
@@ -89,23 +90,23 @@ module _ {l : List ℕ} (rest : Each Narrow l) (op : ℕ) (o : Narrow op) where
 
 -- its four numbers are such
 encoded-narrow : (k : Call) (l : List ℕ) → NarrowCall k → Each Narrow l → Each Narrow (encoded k l)
-encoded-narrow (create c) l h r = one r 0 (lit< tt) h
-encoded-narrow (push v) l h r = one r 1 (lit< tt) h
-encoded-narrow (flip i) l h r = one r 2 (lit< tt) h
-encoded-narrow (fill a b v) l h r = three r 3 (lit< tt) (h .0) (h .1) (h .2)
-encoded-narrow (truncate n) l h r = one r 4 (lit< tt) h
-encoded-narrow (get i) l h r = one r 5 (lit< tt) h
-encoded-narrow (rank v i) l h r = two r 6 (lit< tt) (h .0) (h .1)
-encoded-narrow (select v k) l h r = two r 7 (lit< tt) (h .0) (h .1)
-encoded-narrow (successor v i) l h r = two r 8 (lit< tt) (h .0) (h .1)
-encoded-narrow (predecessor v i) l h r = two r 9 (lit< tt) (h .0) (h .1)
-encoded-narrow verify l h r = nothing r 10 (lit< tt)
-encoded-narrow clear l h r = nothing r 11 (lit< tt)
-encoded-narrow (freeze label) l h r = one r 12 (lit< tt) h
-encoded-narrow inspect l h r = nothing r 13 (lit< tt)
-encoded-narrow (rowRank label v i) l h r = three r 14 (lit< tt) (h .0) (h .1) (h .2)
-encoded-narrow (rowSelect label v k) l h r = three r 15 (lit< tt) (h .0) (h .1) (h .2)
-encoded-narrow (rowGet label i) l h r = two r 16 (lit< tt) (h .0) (h .1)
+encoded-narrow (onStrip (create c)) l h r = one r 0 (lit< tt) h
+encoded-narrow (onStrip (push v)) l h r = one r 1 (lit< tt) h
+encoded-narrow (onStrip (flip i)) l h r = one r 2 (lit< tt) h
+encoded-narrow (onStrip (fill a b v)) l h r = three r 3 (lit< tt) (h .0) (h .1) (h .2)
+encoded-narrow (onStrip (truncate n)) l h r = one r 4 (lit< tt) h
+encoded-narrow (onStrip (get i)) l h r = one r 5 (lit< tt) h
+encoded-narrow (onStrip (rank v i)) l h r = two r 6 (lit< tt) (h .0) (h .1)
+encoded-narrow (onStrip (select v k)) l h r = two r 7 (lit< tt) (h .0) (h .1)
+encoded-narrow (onStrip (successor v i)) l h r = two r 8 (lit< tt) (h .0) (h .1)
+encoded-narrow (onStrip (predecessor v i)) l h r = two r 9 (lit< tt) (h .0) (h .1)
+encoded-narrow (onStrip verify) l h r = nothing r 10 (lit< tt)
+encoded-narrow (onShelf clear) l h r = nothing r 11 (lit< tt)
+encoded-narrow (onShelf (freeze label)) l h r = one r 12 (lit< tt) h
+encoded-narrow (onShelf inspect) l h r = nothing r 13 (lit< tt)
+encoded-narrow (onShelf (rowRank label v i)) l h r = three r 14 (lit< tt) (h .0) (h .1) (h .2)
+encoded-narrow (onShelf (rowSelect label v k)) l h r = three r 15 (lit< tt) (h .0) (h .1) (h .2)
+encoded-narrow (onShelf (rowGet label i)) l h r = two r 16 (lit< tt) (h .0) (h .1)
 
 -- so calls with arguments of 64 bits have a script of such numbers
 pub encode-narrow : (ks : List Call) → Each NarrowCall ks → Each Narrow (encode ks)

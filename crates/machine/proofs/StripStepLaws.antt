@@ -1,202 +1,234 @@
--- The calls on the strip: from a machine's state laid afresh, each does as the machine, and the state after it is good. Assumes nothing.
+-- The calls on the strip: from a strip half laid afresh, each does as the machine, and the half after it is good. Assumes nothing.
 use mathlib.Core.Path.{_≡_, refl, ap, ap₂, _∙_}
-use mathlib.Core.Bool.{cond}
+use mathlib.Core.Bool.{Bool, true, false, not, cond}
 use mathlib.Core.List.{List, [], _∷_, _++_}
 use mathlib.Core.Option.{Option, some, none}
-use Prim.Native.Nat.{ℕ, _+_, _-_, _≤_, _<_}
+use Prim.Native.Nat.{ℕ, _-_, _≤_, _<_}
 use native.Mathlib.Omega.{arith}
 use lib.Dec.{eqb, leb, ltb}
-use lib.ListN.{length, take, replicate, length-append, length-set}
+use lib.ListN.{length, take, length-append, length-set}
 use lib.Seq.{length-take-le}
 use borrow.Author.Tests.{leb-false, ltb-false}
 use Rattle.words.specs.Strip as strip
 use Rattle.words.specs.Strip.{cell}
 use Rattle.words.specs.Refusals.{Line, _⇒_, judge, unless, Told, value, refused, found}
-use Rattle.words.specs.Handles.{handle, untaken}
+use Rattle.words.specs.Handles.{handleOf, untaken}
 use Rattle.words.specs.Calls.{valueLine, withinLine, belowTable, valueTable}
-use Rattle.words.proofs.CheckLaws.{passes, passed-both}
+use Rattle.words.proofs.CheckLaws.{not-both, passes, passed-both}
 use Rattle.counters.specs.Tree.{blocksOf, counterCount}
-use Rattle.counters.specs.Promises.{uncreated, created, outcome, stays}
-use Rattle.counters.specs.Calls.{checks, held, rebuilt, pushTable, flipTable, fillTable, filled, truncateTable, rankTable, selectTable, Verified}
+use Rattle.counters.specs.Record.{StripRecord, builtRecord}
+use Rattle.counters.specs.Promises.{CreatedTold, created, uncreated, Outcome, outcome, stays, Promise}
+use Rattle.counters.specs.Calls.{checks, heldStrip, rebuilt, pushTable, flipTable, fillTable, filled, truncateTable, rankTable, selectTable}
+use Rattle.counters.proofs.PromiseLaws.{promise-exact}
 use Rattle.counters.proofs.AgainLaws.{push-bits, set-bits, filled-bits, filled-length, take-bits}
-use Rattle.image.proofs.FrozenLaws.{promise-exact}
-use Rattle.machine.specs.Machine.{State, create, push, flip, fill, truncate, get, rank, select, successor, predecessor, verify, Step, accepted, refuses, tells, handleOf, withStrip, emptied, changes, flipped, move}
-use Rattle.machine.specs.Driver.{Held, afresh, Stepped, steppedOf, byCreated, byChanged, byTold, Acted}
-use Rattle.machine.proofs.StateLaws.{Good, zero-words, zero-counters, passes-length, sized, words-are, counters-are, strip-is, fits}
+use Rattle.machine.specs.Machine.{StripState, StripCall, create, push, flip, fill, truncate, get, rank, select, successor, predecessor, verify, Step, accepted, refuses, tells, through, handleIn, withStrip, changes, flipped, stripMove}
+use Rattle.machine.specs.Unit.{afreshStrip, byCreated, byChanged, BySome, StripActed}
+use Rattle.machine.proofs.StateLaws.{StripGood, passes-length, sized, words-are, counters-are, strip-is, fits, fitting-is}
 
-module _ (s : State) (g : Good s) where
-  abbrev x : Held
-  x = afresh s
+-- ---- a step by its table
+-- an outcome is that of a machine's step where its refusals change nothing and what is done is the same
+pub judged-as : {A B C : Type 0} (by : C → Step B) (f : A → B) (a : A) (refuse : ℕ → C) (late : C) (m : Step A) (o : Option ℕ)
+    → ((n : ℕ) → by (refuse n) ≡ refuses (f a) n) → by late ≡ through f m → by (unless o refuse late) ≡ through f (unless o (refuses a) m)
+judged-as by f a refuse late m none r l = l
+judged-as by f a refuse late m (some n) r l = r n
+
+-- what is told
+pub told-judged : {A B : Type 0} (f : A → B) (a : A) (o : Option ℕ) (t : Told) → tells (f a) (unless o refused t) ≡ through f (unless o (refuses a) (tells a t))
+told-judged f a o t = judged-as (tells (f a)) f a refused t (tells a t) o (λ n. refl) (go t)
+  where
+    go : (t : Told) → tells (f a) t ≡ through f (tells a t)
+    go (value x) = refl
+    go (refused n) = refl
+
+-- by a promise, where its condition holds
+by-exact : {A B : Type 0} {refuse : ℕ → A} {late : A} {Fit : Type 0} {Loose : A → Type 0} {by : A → Step B} {y : Step B} (table : Option ℕ)
+    → BySome A (Promise A table refuse late Fit Loose) by y → Fit → y ≡ by (unless table refuse late)
+by-exact {by = by} table e f = e .same ∙ ap by (promise-exact table (e .holds) f)
+
+-- what holds before a judged step, and of what is done where the table passes, holds after it
+pub judged-good : {A : Type 0} (P : A → Type 0) (a : A) (o : Option ℕ) (m : Step A) → P a → (o ≡ none → P (m .next)) → P (unless o (refuses a) m .next)
+judged-good P a none m g f = f refl
+judged-good P a (some n) m g f = g
+
+-- and after a step that changes nothing
+pub tells-good : {A : Type 0} (P : A → Type 0) (a : A) (o : Option ℕ) (t : Told) → P a → P (unless o (refuses a) (tells a t) .next)
+tells-good P a none (value x) g = g
+tells-good P a none (refused n) g = g
+tells-good P a (some n) t g = g
+
+-- a table of which no line has the number 0
+abbrev pub Numbered : List Line → Type 0
+Numbered [] = Unit {0}
+Numbered (l ∷ ls) = (l .number ≡ 0 → ⊥) × Numbered ls
+
+-- gives no refusal 0
+pub numbered : (ls : List Line) → Numbered ls → (n : ℕ) → judge ls ≡ some n → n ≡ 0 → ⊥
+numbered [] w n p z = not-both p refl
+numbered (l ∷ ls) w n p z = go (l .applies) p (λ q. numbered ls (w .1) n q z)
+  where
+    go : (b : Bool) → cond b (some (l .number)) (judge ls) ≡ some n → (judge ls ≡ some n → ⊥) → ⊥
+    go true q rest = let e : l .number ≡ n = cc in w .0 (e ∙ z)
+    go false q rest = rest q
+
+module _ (a : StripState) (g : StripGood a) where
+  abbrev r : StripRecord
+  r = afreshStrip a
 
   -- ---- what is done
   -- a change of which the outcome is that of a table and of the strip held
-  changed-as : (table : ℕ → ℕ → Option ℕ) (t : List ℕ → List ℕ) (a b : List ℕ → ℕ)
-      → byChanged x
-      (unless (table (length (x .words)) (length (x .counters))) (stays (x .handle) (x .words) (x .counters))
-      (rebuilt (s .capacity) (t (held (x .handle) (x .words))) (a (held (x .handle) (x .words))) (b (held (x .handle) (x .words)))))
-      ≡ steppedOf (unless (table (s .words) (s .counters)) (refuses s) (accepted (withStrip s (t (s .strip))) (a (s .strip)) (b (s .strip))))
-  changed-as table t a b =
-      ap₂ (λ (o : Option ℕ) (u : List ℕ). byChanged x (unless o (stays (x .handle) (x .words) (x .counters)) (rebuilt (s .capacity) (t u) (a u) (b u))))
-      (ap₂ table (words-are s g) (counters-are s g)) (strip-is s g)
-      ∙ go (table (s .words) (s .counters))
-    where
-      go : (o : Option ℕ)
-          → byChanged x (unless o (stays (x .handle) (x .words) (x .counters)) (rebuilt (s .capacity) (t (s .strip)) (a (s .strip)) (b (s .strip))))
-          ≡ steppedOf (unless o (refuses s) (accepted (withStrip s (t (s .strip))) (a (s .strip)) (b (s .strip))))
-      go none = refl
-      go (some n) = refl
+  changed-as : (table : ℕ → ℕ → Option ℕ) (t : List ℕ → List ℕ) (x z : List ℕ → ℕ)
+      → byChanged
+      (unless (table (length (r .words)) (length (r .counters))) (stays (r .handle) (r .words) (r .counters))
+      (rebuilt (a .capacity) (t (heldStrip (r .handle) (r .words))) (x (heldStrip (r .handle) (r .words))) (z (heldStrip (r .handle) (r .words)))))
+      ≡ through afreshStrip (unless (table (a .words) (a .counters)) (refuses a) (accepted (withStrip a (t (a .strip))) (x (a .strip)) (z (a .strip))))
+  changed-as table t x z =
+      ap₂ (λ (o : Option ℕ) (u : List ℕ). byChanged (unless o (stays (r .handle) (r .words) (r .counters)) (rebuilt (a .capacity) (t u) (x u) (z u))))
+      (ap₂ table (words-are a g) (counters-are a g)) (strip-is a g)
+      ∙ judged-as byChanged afreshStrip a (stays (r .handle) (r .words) (r .counters)) _ _ (table (a .words) (a .counters)) (λ n. refl) refl
 
-  -- what is told, by a table
-  pub told-judged : (o : Option ℕ) (a : Told) → byTold x (unless o refused a) ≡ steppedOf (unless o (refuses s) (tells s a))
-  told-judged none (value a) = refl
-  told-judged none (refused n) = refl
-  told-judged (some n) a = refl
-
-  -- by a table and of the strip held
+  -- what is told, by a table and of the strip held
   told-as : (table : ℕ → ℕ → Option ℕ) (late : List ℕ → Told)
-      → byTold x (unless (table (length (x .words)) (length (x .counters))) refused (late (held (x .handle) (x .words))))
-      ≡ steppedOf (unless (table (s .words) (s .counters)) (refuses s) (tells s (late (s .strip))))
+      → tells r (unless (table (length (r .words)) (length (r .counters))) refused (late (heldStrip (r .handle) (r .words))))
+      ≡ through afreshStrip (unless (table (a .words) (a .counters)) (refuses a) (tells a (late (a .strip))))
   told-as table late =
-      ap₂ (λ (o : Option ℕ) (u : List ℕ). byTold x (unless o refused (late u))) (ap₂ table (words-are s g) (counters-are s g)) (strip-is s g)
-      ∙ told-judged (table (s .words) (s .counters)) (late (s .strip))
+      ap₂ (λ (o : Option ℕ) (u : List ℕ). tells r (unless o refused (late u))) (ap₂ table (words-are a g) (counters-are a g)) (strip-is a g)
+      ∙ told-judged afreshStrip a (table (a .words) (a .counters)) (late (a .strip))
 
   -- lay
-  pub create-step : (c : ℕ) (y : Stepped) → Acted (create c) x y → y ≡ steppedOf (move s (create c))
+  pub create-step : (c : ℕ) (y : Step StripRecord) → StripActed (create c) r y → y ≡ through afreshStrip (stripMove a (create c))
   create-step c y e =
-      e ∙ ap₂ (λ (n m : ℕ). byCreated x (unless (judge (checks (handle c 0) n m)) (λ k. outcome (uncreated k) (x .words) (x .counters))
-      (outcome (created (handle c 0) (counterCount (blocksOf c))) (replicate n 0) (replicate m 0)))) (words-are s g) (counters-are s g)
-      ∙ go (judge (checks (handle c 0) (s .words) (s .counters))) refl
-    where
-      go : (o : Option ℕ) → judge (checks (handle c 0) (s .words) (s .counters)) ≡ o
-          → byCreated x (unless o (λ k. outcome (uncreated k) (x .words) (x .counters))
-          (outcome (created (handle c 0) (counterCount (blocksOf c))) (replicate (s .words) 0) (replicate (s .counters) 0)))
-          ≡ steppedOf (unless o (refuses s) (accepted (emptied s c) (counterCount (blocksOf c)) 0))
-      go none p =
-          ap₂ (λ (ws cs : List ℕ). byCreated x (outcome (created (handle c 0) (counterCount (blocksOf c))) ws cs)) (zero-words c (s .words) (s .counters) p)
-          (zero-counters c (s .words) (s .counters) p)
-      go (some n) p = refl
+      let refuse : ℕ → Outcome CreatedTold = (λ n. outcome (uncreated n) (r .words) (r .counters)) in
+      let laid : Outcome CreatedTold =
+      outcome (created (handleOf c []) (counterCount (blocksOf c))) (builtRecord c [] .words) (builtRecord c [] .counters) in
+      e ∙ ap₂ (λ (n m : ℕ). byCreated (r .handle) (unless (judge (checks (handleOf c []) n m)) refuse laid)) (words-are a g) (counters-are a g)
+      ∙ judged-as (byCreated (r .handle)) afreshStrip a refuse laid _ (judge (checks (handleOf c []) (a .words) (a .counters))) (λ n. refl) refl
 
   -- add
-  pub push-step : (v : ℕ) (y : Stepped) → Acted (push v) x y → y ≡ steppedOf (move s (push v))
+  pub push-step : (v : ℕ) (y : Step StripRecord) → StripActed (push v) r y → y ≡ through afreshStrip (stripMove a (push v))
   push-step v y e =
-      e .same ∙ ap (byChanged x) (promise-exact _ (e .holds) (fits s g))
-      ∙ changed-as (λ n m. judge (pushTable (x .handle) n m v)) (λ u. u ++ (v ∷ [])) (λ u. length (s .strip))
-      (λ u. cond (eqb v 1) (changes s (length (s .strip))) 0)
+      by-exact _ e (fits a g)
+      ∙ changed-as (λ n m. judge (pushTable (r .handle) n m v)) (λ u. u ++ (v ∷ [])) (λ u. length (a .strip))
+      (λ u. cond (eqb v 1) (changes a (length (a .strip))) 0)
 
   -- turn
-  pub flip-step : (i : ℕ) (y : Stepped) → Acted (flip i) x y → y ≡ steppedOf (move s (flip i))
+  pub flip-step : (i : ℕ) (y : Step StripRecord) → StripActed (flip i) r y → y ≡ through afreshStrip (stripMove a (flip i))
   flip-step i y e =
-      e .same ∙ ap (byChanged x) (promise-exact _ (e .holds) (fits s g))
-      ∙ changed-as (λ n m. judge (flipTable (x .handle) n m i)) (λ u. flipped u i) (λ u. 1 - cell u i) (λ u. changes s i)
+      by-exact _ e (fits a g)
+      ∙ changed-as (λ n m. judge (flipTable (r .handle) n m i)) (λ u. flipped u i) (λ u. 1 - cell u i) (λ u. changes a i)
 
   -- run
-  pub fill-step : (a b v : ℕ) (y : Stepped) → Acted (fill a b v) x y → y ≡ steppedOf (move s (fill a b v))
-  fill-step a b v y e =
-      e ∙ changed-as (λ n m. judge (fillTable (x .handle) n m a b v)) (λ u. filled u a b v) (λ u. strip.rank (filled u a b v) 1 (length (s .strip))) (λ u. 0)
+  pub fill-step : (p q v : ℕ) (y : Step StripRecord) → StripActed (fill p q v) r y → y ≡ through afreshStrip (stripMove a (fill p q v))
+  fill-step p q v y e =
+      e ∙ changed-as (λ n m. judge (fillTable (r .handle) n m p q v)) (λ u. filled u p q v) (λ u. strip.rank (filled u p q v) 1 (length (a .strip))) (λ u. 0)
 
   -- cut
-  pub truncate-step : (n : ℕ) (y : Stepped) → Acted (truncate n) x y → y ≡ steppedOf (move s (truncate n))
+  pub truncate-step : (n : ℕ) (y : Step StripRecord) → StripActed (truncate n) r y → y ≡ through afreshStrip (stripMove a (truncate n))
   truncate-step n y e =
-      e ∙ changed-as (λ k m. judge (truncateTable (x .handle) k m n)) (λ u. take n u) (λ u. strip.rank (take n u) 1 n) (λ u. 0)
+      e ∙ changed-as (λ k m. judge (truncateTable (r .handle) k m n)) (λ u. take n u) (λ u. strip.rank (take n u) 1 n) (λ u. 0)
 
   -- look
-  pub get-step : (i : ℕ) (y : Stepped) → Acted (get i) x y → y ≡ steppedOf (move s (get i))
-  get-step i y e = e ∙ told-as (λ n m. judge (belowTable (x .handle) n untaken i)) (λ u. value (cell u i))
+  pub get-step : (i : ℕ) (y : Step StripRecord) → StripActed (get i) r y → y ≡ through afreshStrip (stripMove a (get i))
+  get-step i y e = e ∙ told-as (λ n m. judge (belowTable (r .handle) n untaken i)) (λ u. value (cell u i))
 
   -- count
-  pub rank-step : (v i : ℕ) (y : Stepped) → Acted (rank v i) x y → y ≡ steppedOf (move s (rank v i))
-  rank-step v i y e =
-      e .same ∙ ap (byTold x) (promise-exact _ (e .holds) (fits s g))
-      ∙ told-as (λ n m. judge (rankTable (x .handle) n m v i)) (λ u. value (strip.rank u v i))
+  pub rank-step : (v i : ℕ) (y : Step StripRecord) → StripActed (rank v i) r y → y ≡ through afreshStrip (stripMove a (rank v i))
+  rank-step v i y e = by-exact _ e (fits a g) ∙ told-as (λ n m. judge (rankTable (r .handle) n m v i)) (λ u. value (strip.rank u v i))
 
   -- find
-  pub select-step : (v k : ℕ) (y : Stepped) → Acted (select v k) x y → y ≡ steppedOf (move s (select v k))
-  select-step v k y e =
-      e .same ∙ ap (byTold x) (promise-exact _ (e .holds) (fits s g))
-      ∙ told-as (λ n m. judge (selectTable (x .handle) n m v k)) (λ u. found (strip.select u v k))
+  pub select-step : (v k : ℕ) (y : Step StripRecord) → StripActed (select v k) r y → y ≡ through afreshStrip (stripMove a (select v k))
+  select-step v k y e = by-exact _ e (fits a g) ∙ told-as (λ n m. judge (selectTable (r .handle) n m v k)) (λ u. found (strip.select u v k))
 
   -- next
-  pub successor-step : (v i : ℕ) (y : Stepped) → Acted (successor v i) x y → y ≡ steppedOf (move s (successor v i))
-  successor-step v i y e = e ∙ told-as (λ n m. judge (valueTable (x .handle) n untaken v i)) (λ u. found (strip.successor u v i))
+  pub successor-step : (v i : ℕ) (y : Step StripRecord) → StripActed (successor v i) r y → y ≡ through afreshStrip (stripMove a (successor v i))
+  successor-step v i y e = e ∙ told-as (λ n m. judge (valueTable (r .handle) n untaken v i)) (λ u. found (strip.successor u v i))
 
   -- prior
-  pub predecessor-step : (v i : ℕ) (y : Stepped) → Acted (predecessor v i) x y → y ≡ steppedOf (move s (predecessor v i))
-  predecessor-step v i y e = e ∙ told-as (λ n m. judge (valueTable (x .handle) n untaken v i)) (λ u. found (strip.predecessor u v i))
+  pub predecessor-step : (v i : ℕ) (y : Step StripRecord) → StripActed (predecessor v i) r y → y ≡ through afreshStrip (stripMove a (predecessor v i))
+  predecessor-step v i y e = e ∙ told-as (λ n m. judge (valueTable (r .handle) n untaken v i)) (λ u. found (strip.predecessor u v i))
 
-  -- check, on a record that fits
-  verified : (o : Told) → Verified (x .handle) (x .words) (x .counters) o
-      → o ≡ unless (judge (checks (x .handle) (length (x .words)) (length (x .counters)))) refused (value (strip.rank (held (x .handle) (x .words)) 1 (length (s .strip))))
-  verified o p = go (judge (checks (x .handle) (length (x .words)) (length (x .counters)))) refl
-    where
-      go : (j : Option ℕ) → judge (checks (x .handle) (length (x .words)) (length (x .counters))) ≡ j
-          → o ≡ unless j refused (value (strip.rank (held (x .handle) (x .words)) 1 (length (s .strip))))
-      go none d = p .fits d (fits s g)
-      go (some n) d = p .early n d
-
-  pub verify-step : (y : Stepped) → Acted verify x y → y ≡ steppedOf (move s verify)
+  -- check: the record fits
+  pub verify-step : (y : Step StripRecord) → StripActed verify r y → y ≡ through afreshStrip (stripMove a verify)
   verify-step y e =
-      e .same ∙ ap (byTold x) (verified (e .outcome) (e .holds))
-      ∙ told-as (λ n m. judge (checks (x .handle) n m)) (λ u. value (strip.rank u 1 (length (s .strip))))
+      e ∙ ap (λ (b : Bool).
+      tells r
+      (unless (judge (checks (r .handle) (length (r .words)) (length (r .counters)) ++ ((not b ⇒ 9) ∷ []))) refused
+      (value (strip.rank (heldStrip (r .handle) (r .words)) 1 (length (a .strip)))))) (fitting-is a g)
+      ∙ told-as (λ n m. judge (checks (r .handle) n m)) (λ u. value (strip.rank u 1 (length (a .strip))))
 
-  -- ---- the state after
-  -- a judged step: the state as it was, or what is done where the table passes
-  pub judged-good : (o : Option ℕ) (m : Step) → (o ≡ none → Good (m .next)) → Good (unless o (refuses s) m .next)
-  judged-good none m f = f refl
-  judged-good (some n) m f = g
+  -- every call
+  pub strip-step : (k : StripCall) (y : Step StripRecord) → StripActed k r y → y ≡ through afreshStrip (stripMove a k)
+  strip-step (create c) y e = create-step c y e
+  strip-step (push v) y e = push-step v y e
+  strip-step (flip i) y e = flip-step i y e
+  strip-step (fill p q v) y e = fill-step p q v y e
+  strip-step (truncate n) y e = truncate-step n y e
+  strip-step (get i) y e = get-step i y e
+  strip-step (rank v i) y e = rank-step v i y e
+  strip-step (select v k) y e = select-step v k y e
+  strip-step (successor v i) y e = successor-step v i y e
+  strip-step (predecessor v i) y e = predecessor-step v i y e
+  strip-step verify y e = verify-step y e
 
+  -- ---- the half after
   -- another strip of bits, not above the capacity
-  strip-good : (t : List ℕ) → ((p : ℕ) → cell t p ≤ 1) → length t ≤ s .capacity → Good (withStrip s t)
-  strip-good t b l =
-      record {
-        passes = passes-length (s .capacity) (length (s .strip)) (length t) (s .words) (s .counters) (g .passes) l;
-        bits = b;
-        shelf = g .shelf;
-        size = g .size;
-      }
+  with-good : (t : List ℕ) → ((p : ℕ) → cell t p ≤ 1) → length t ≤ a .capacity → StripGood (withStrip a t)
+  with-good t b l =
+      record { passes = passes-length (a .capacity) (length (a .strip)) (length t) (a .words) (a .counters) (g .passes) l; bits = b }
 
   -- the lines of a table after the checks
-  lines : (ls : List Line) → judge (checks (handleOf s) (s .words) (s .counters) ++ ls) ≡ none → judge ls ≡ none
-  lines ls p = passed-both (checks (handleOf s) (s .words) (s .counters)) ls p .1
+  lines : (ls : List Line) → judge (checks (handleIn a) (a .words) (a .counters) ++ ls) ≡ none → judge ls ≡ none
+  lines ls p = passed-both (checks (handleIn a) (a .words) (a .counters)) ls p .1
 
-  pub create-good : (c : ℕ) → Good (move s (create c) .next)
+  pub create-good : (c : ℕ) → StripGood (stripMove a (create c) .next)
   create-good c =
-      judged-good (judge (checks (handle c 0) (s .words) (s .counters))) _ (λ p.
-      record { passes = p; bits = (λ q. omega arith); shelf = g .shelf; size = g .size })
+      judged-good StripGood a (judge (checks (handleOf c []) (a .words) (a .counters))) _ g (λ p. record { passes = p; bits = (λ q. omega arith) })
 
-  pub push-good : (v : ℕ) → Good (move s (push v) .next)
+  pub push-good : (v : ℕ) → StripGood (stripMove a (push v) .next)
   push-good v =
-      judged-good (judge (pushTable (handleOf s) (s .words) (s .counters) v)) _ (λ p.
-      let ls = valueLine v ∷ (leb (s .capacity) (length (s .strip)) ⇒ 7) ∷ [] in
+      judged-good StripGood a (judge (pushTable (handleIn a) (a .words) (a .counters) v)) _ g (λ p.
+      let ls = valueLine v ∷ (leb (a .capacity) (length (a .strip)) ⇒ 7) ∷ [] in
       let l = passes ls (lines ls p) in
       let one : length (v ∷ []) ≡ 1 = refl in
-      let room : length (s .strip) < s .capacity = leb-false _ _ (l .1 .0) in
-      strip-good (s .strip ++ (v ∷ [])) (push-bits (s .strip) v (g .bits) (ltb-false _ _ (l .0)))
-      (omega (arith, length-append (s .strip) (v ∷ []), one, room)))
+      let room : length (a .strip) < a .capacity = leb-false _ _ (l .1 .0) in
+      with-good (a .strip ++ (v ∷ [])) (push-bits (a .strip) v (g .bits) (ltb-false _ _ (l .0)))
+      (omega (arith, length-append (a .strip) (v ∷ []), one, room)))
 
-  pub flip-good : (i : ℕ) → Good (move s (flip i) .next)
+  pub flip-good : (i : ℕ) → StripGood (stripMove a (flip i) .next)
   flip-good i =
-      judged-good (judge (flipTable (handleOf s) (s .words) (s .counters) i)) _ (λ p.
-      strip-good (flipped (s .strip) i) (set-bits (s .strip) i (1 - cell (s .strip) i) (g .bits) (omega arith))
-      (omega (arith, length-set (s .strip) i (1 - cell (s .strip) i), sized s g .long)))
+      judged-good StripGood a (judge (flipTable (handleIn a) (a .words) (a .counters) i)) _ g (λ p.
+      with-good (flipped (a .strip) i) (set-bits (a .strip) i (1 - cell (a .strip) i) (g .bits) (omega arith))
+      (omega (arith, length-set (a .strip) i (1 - cell (a .strip) i), sized a g .long)))
 
-  pub fill-good : (a b v : ℕ) → Good (move s (fill a b v) .next)
-  fill-good a b v =
-      judged-good (judge (fillTable (handleOf s) (s .words) (s .counters) a b v)) _ (λ p.
-      let ls = valueLine v ∷ (ltb b a ⇒ 5) ∷ withinLine (length (s .strip)) b ∷ [] in
+  pub fill-good : (m n v : ℕ) → StripGood (stripMove a (fill m n v) .next)
+  fill-good m n v =
+      judged-good StripGood a (judge (fillTable (handleIn a) (a .words) (a .counters) m n v)) _ g (λ p.
+      let ls = valueLine v ∷ (ltb n m ⇒ 5) ∷ withinLine (length (a .strip)) n ∷ [] in
       let l = passes ls (lines ls p) in
-      strip-good (filled (s .strip) a b v) (filled-bits (s .strip) a b v (g .bits) (ltb-false _ _ (l .0)))
-      (omega (arith, filled-length (s .strip) a b v, sized s g .long)))
+      with-good (filled (a .strip) m n v) (filled-bits (a .strip) m n v (g .bits) (ltb-false _ _ (l .0)))
+      (omega (arith, filled-length (a .strip) m n v, sized a g .long)))
 
-  pub truncate-good : (n : ℕ) → Good (move s (truncate n) .next)
+  pub truncate-good : (n : ℕ) → StripGood (stripMove a (truncate n) .next)
   truncate-good n =
-      judged-good (judge (truncateTable (handleOf s) (s .words) (s .counters) n)) _ (λ p.
-      let ls = withinLine (length (s .strip)) n ∷ [] in
+      judged-good StripGood a (judge (truncateTable (handleIn a) (a .words) (a .counters) n)) _ g (λ p.
+      let ls = withinLine (length (a .strip)) n ∷ [] in
       let l = passes ls (lines ls p) in
-      let h : n ≤ length (s .strip) = ltb-false _ _ (l .0) in
-      strip-good (take n (s .strip)) (take-bits n (s .strip) h (g .bits)) (omega (arith, length-take-le n (s .strip) h, sized s g .long)))
+      let h : n ≤ length (a .strip) = ltb-false _ _ (l .0) in
+      with-good (take n (a .strip)) (take-bits n (a .strip) h (g .bits)) (omega (arith, length-take-le n (a .strip) h, sized a g .long)))
 
   -- a call that changes nothing
-  pub tells-good : (o : Option ℕ) (t : Told) → Good (unless o (refuses s) (tells s t) .next)
-  tells-good none (value a) = g
-  tells-good none (refused n) = g
-  tells-good (some n) t = g
+  reads-good : (o : Option ℕ) (t : Told) → StripGood (unless o (refuses a) (tells a t) .next)
+  reads-good o t = tells-good StripGood a o t g
+
+  -- every call
+  pub strip-good-next : (k : StripCall) → StripGood (stripMove a k .next)
+  strip-good-next (create c) = create-good c
+  strip-good-next (push v) = push-good v
+  strip-good-next (flip i) = flip-good i
+  strip-good-next (fill p q v) = fill-good p q v
+  strip-good-next (truncate n) = truncate-good n
+  strip-good-next (get i) = reads-good (judge (belowTable (handleIn a) (a .words) untaken i)) (value (cell (a .strip) i))
+  strip-good-next (rank v i) = reads-good (judge (rankTable (handleIn a) (a .words) (a .counters) v i)) (value (strip.rank (a .strip) v i))
+  strip-good-next (select v k) = reads-good (judge (selectTable (handleIn a) (a .words) (a .counters) v k)) (found (strip.select (a .strip) v k))
+  strip-good-next (successor v i) = reads-good (judge (valueTable (handleIn a) (a .words) untaken v i)) (found (strip.successor (a .strip) v i))
+  strip-good-next (predecessor v i) = reads-good (judge (valueTable (handleIn a) (a .words) untaken v i)) (found (strip.predecessor (a .strip) v i))
+  strip-good-next verify = reads-good (judge (checks (handleIn a) (a .words) (a .counters))) (value (strip.rank (a .strip) 1 (length (a .strip))))

@@ -1,4 +1,7 @@
 pub mod Machine
 pub mod Scripts
-pub mod Driver
-pub mod Driving
+pub mod Unit
+pub mod Demand
+pub mod Runner
+pub mod Loop
+pub mod Examples

@@ -1,13 +1,14 @@
 // A whole script, from the opening on.
 ghost use mathlib.Core.Path.{_≡_};
 ghost use mathlib.Core.Bool.{not};
-ghost use Prim.Native.Nat.{_+_, _*_, _/_, _≤_};
+ghost use Prim.Native.Nat.{_+_, _≤_};
 ghost use lib.Dec.{eqb};
 ghost use lib.ListN.{length, set};
 ghost use Rattle.words.specs.Refusals.{judge, verdictOf};
 ghost use Rattle.machine.specs.Machine.{openingTable};
-ghost use Rattle.machine.specs.Driver.{held, ended, Executed};
-ghost use Rattle.machine.specs.Driving.{Driven};
+ghost use Rattle.machine.specs.Unit.{stripRecord, unitState};
+ghost use Rattle.machine.specs.Runner.{answersFor, callsIn, ended, Executed};
+ghost use Rattle.machine.specs.Loop.{Looped};
 use super::step::step;
 use counters::change::create;
 use counters::check::check_record;
@@ -17,6 +18,13 @@ use words::handle::Handle;
 use words::refusal::Refusal;
 use words::refusal::Verdict;
 use words::refusal::number;
+
+// The numbers of a call in a script.
+const CALL_NUMBERS: usize = 4;
+// The answers before those of the calls.
+const HEAD_ANSWERS: usize = 3;
+// The answers of a call.
+const CALL_ANSWERS: usize = 3;
 
 // Three answers from place `at` on.
 fn put_answers(answers: &mut [u64], at: usize, a: u64, b: u64, c: u64)
@@ -28,8 +36,8 @@ fn put_answers(answers: &mut [u64], at: usize, a: u64, b: u64, c: u64)
     answers[at + 2] = c;
 }
 
-// Every call of a script, on handle h and any buffers; the answers from place 3 on. Answers the handle last given back.
-fn drive(
+// Every call of a script, on handle h and any buffers; the answers after the first three places. Answers the handle last given back.
+fn run_calls(
     script: &[u64],
     h: Handle,
     words: &mut [u64],
@@ -37,21 +45,28 @@ fn drive(
     image: &mut [u8],
     answers: &mut [u64],
 ) -> Handle
-    requires { ⌜ 3 + 3 * (length (now script) / 4) ≤ length (now answers) ⌝ }
-    ensures { λ r. ⌜ Driven (now (script .entry)) (held h (now (words .entry)) (now (counters .entry)) (now (image .entry))) (now (answers .entry)) (held r (now (words .exit)) (now (counters .exit)) (now (image .exit))) (now (answers .exit)) ⌝ }
+    requires { ⌜ answersFor (callsIn (now script)) ≤ length (now answers) ⌝ }
+    ensures { λ r. ⌜ Looped (now (script .entry)) (unitState (stripRecord h (now (words .entry)) (now (counters .entry))) (now (image .entry)))
+        (now (answers .entry)) (unitState (stripRecord r (now (words .exit)) (now (counters .exit))) (now (image .exit))) (now (answers .exit)) ⌝ }
 {
     let mut last = h;
-    let n = script.len() / 4;
+    let n = script.len() / CALL_NUMBERS;
     let mut i = 0;
     while i < n {
-        let at = 4 * i;
+        let at = CALL_NUMBERS * i;
         let op = script[at];
         let x = script[at + 1];
         let y = script[at + 2];
         let z = script[at + 3];
         let t = step(op, x, y, z, last, words, counters, image);
         last = t.handle;
-        put_answers(answers, 3 + 3 * i, t.refusal, t.first, t.second);
+        put_answers(
+            answers,
+            HEAD_ANSWERS + CALL_ANSWERS * i,
+            t.refusal,
+            t.first,
+            t.second,
+        );
         i += 1;
     }
     last
@@ -97,10 +112,11 @@ pub fn execute(
     image: &mut [u8],
     answers: &mut [u64],
 ) -> u64
-    ensures { λ r. ⌜ Executed (now (script .entry)) capacity order (now (words .entry)) (now (counters .entry)) (now (image .entry)) (now (answers .entry)) (ended r (now (words .exit)) (now (counters .exit)) (now (image .exit)) (now (answers .exit))) ⌝ }
+    ensures { λ r. ⌜ Executed (now (script .entry)) capacity order (now (words .entry)) (now (counters .entry)) (now (image .entry))
+        (now (answers .entry)) (ended r (now (words .exit)) (now (counters .exit)) (now (image .exit)) (now (answers .exit))) ⌝ }
 {
-    let calls = script.len() / 4;
-    if answers.len() < 3 + 3 * calls {
+    let calls = script.len() / CALL_NUMBERS;
+    if answers.len() < HEAD_ANSWERS + CALL_ANSWERS * calls {
         return 18446744073709551615;
     }
     match check_opening(capacity, order, words.len(), counters.len(), image.len()) {
@@ -111,7 +127,7 @@ pub fn execute(
         Verdict::Pass => {
             create(capacity, words, counters);
             clear(image);
-            let h = drive(
+            let h = run_calls(
                 script,
                 Handle::new(capacity, 0),
                 words,

@@ -3,7 +3,8 @@ ghost use mathlib.Core.Path.{_≡_};
 ghost use Rattle.words.specs.Refusals.{toldOf};
 ghost use Rattle.counters.specs.Promises.{createdOf, changedOf};
 ghost use Rattle.machine.specs.Scripts.{called};
-ghost use Rattle.machine.specs.Driver.{held, stepped, Acted, createdReply, changedReply, toldReply};
+ghost use Rattle.machine.specs.Machine.{tells};
+ghost use Rattle.machine.specs.Unit.{stripRecord, unitState, createdStep, changedStep, replyStep, unitStep, Acted};
 use counters::answer::Changed;
 use counters::answer::Created;
 use counters::change::create;
@@ -37,7 +38,7 @@ pub struct Reply {
 
 // What lay answers. A refused one leaves the handle in use.
 fn created(h: Handle, r: Created) -> Reply
-    ensures { λ t. ⌜ t ≡ createdReply h (createdOf r) ⌝ }
+    ensures { λ t. ⌜ replyStep t ≡ createdStep h (createdOf r) ⌝ }
 {
     match r {
         Created::Done(given, x) => Reply {
@@ -57,7 +58,7 @@ fn created(h: Handle, r: Created) -> Reply
 
 // What a change answers.
 fn changed(r: Changed) -> Reply
-    ensures { λ t. ⌜ t ≡ changedReply (changedOf r) ⌝ }
+    ensures { λ t. ⌜ replyStep t ≡ changedStep (changedOf r) ⌝ }
 {
     match r {
         Changed::Done(g, x, y) => Reply {
@@ -77,7 +78,7 @@ fn changed(r: Changed) -> Reply
 
 // What a call answers that changes no strip.
 fn told(h: Handle, r: Answer) -> Reply
-    ensures { λ t. ⌜ t ≡ toldReply h (toldOf r) ⌝ }
+    ensures { λ t. ⌜ replyStep t ≡ tells h (toldOf r) ⌝ }
 {
     match r {
         Answer::Value(x) => Reply {
@@ -106,7 +107,8 @@ pub fn step(
     counters: &mut [u32],
     image: &mut [u8],
 ) -> Reply
-    ensures { λ t. ⌜ Acted (called op x y z) (held h (now (words .entry)) (now (counters .entry)) (now (image .entry))) (stepped t (now (words .exit)) (now (counters .exit)) (now (image .exit))) ⌝ }
+    ensures { λ t. ⌜ Acted (called op x y z) (unitState (stripRecord h (now (words .entry)) (now (counters .entry))) (now (image .entry)))
+        (unitStep t (now (words .exit)) (now (counters .exit)) (now (image .exit))) ⌝ }
 {
     let code = op % 17;
     match code {

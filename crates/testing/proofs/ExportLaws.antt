@@ -9,9 +9,10 @@ use borrow.Author.Tests.{lt-ltb, le-ltb}
 use Rattle.words.specs.declared.handle.Handle.{Handle}
 use Rattle.words.specs.Refusals.{Told, coded, CodedAs}
 use Rattle.counters.specs.Promises.{ChangedTold, Outcome, outcome}
-use Rattle.machine.specs.Driver.{Stepped, stepped}
 use Rattle.machine.specs.declared.step.Reply.{Reply}
-use Rattle.testing.specs.Exports.{five, changedFive, fiveOver, lent, after, reported, Reported, LentAll, lentAll, StepReported}
+use Rattle.machine.specs.Machine.{Step}
+use Rattle.machine.specs.Unit.{UnitState, unitStep}
+use Rattle.testing.specs.Exports.{five, changedFive, fiveOver, lent, lentAfter, reported, Reported, LentAll, lentAll, StepReported}
 
 -- five stores at the front
 pub set-five : (os : List ℕ) (n x y : ℕ) (h : Handle) → 5 ≤ length os
@@ -30,14 +31,14 @@ coded-as P g h t r e p c = record { told = t; holds = subst (λ (k : Handle). P 
 -- a call whose outcome is fixed: too short an `out`
 pub reported-idle : {A : Type 0} (numbers : A → List ℕ) (ws cs os : List ℕ) (o : Outcome A) → length os < 5
     → lent ws cs os ≡ reported numbers ws cs os o
-reported-idle numbers ws cs os o l = sym (ap (λ (b : Bool). cond b (lent ws cs os) (after numbers os o)) (lt-ltb (length os) 5 l))
+reported-idle numbers ws cs os o l = sym (ap (λ (b : Bool). cond b (lent ws cs os) (lentAfter numbers os o)) (lt-ltb (length os) 5 l))
 
 -- and run
 pub reported-ran : {A : Type 0} (numbers : A → List ℕ) (ws cs os vs ds es : List ℕ) (t : A) (o : Outcome A) → 5 ≤ length os
     → outcome t vs ds ≡ o → es ≡ fiveOver (numbers t) os → lent vs ds es ≡ reported numbers ws cs os o
 reported-ran numbers ws cs os vs ds es t o le e w =
-    ap (lent vs ds) w ∙ ap (after numbers os) e
-    ∙ sym (ap (λ (b : Bool). cond b (lent ws cs os) (after numbers os o)) (le-ltb (length os) 5 le))
+    ap (lent vs ds) w ∙ ap (lentAfter numbers os) e
+    ∙ sym (ap (λ (b : Bool). cond b (lent ws cs os) (lentAfter numbers os o)) (le-ltb (length os) 5 le))
 
 -- a change with a free part: too short an `out`
 pub some-idle : (P : Outcome ChangedTold → Type 0) (ws cs os : List ℕ) → length os < 5 → Reported P ws cs os (lent ws cs os)
@@ -53,14 +54,14 @@ some-ran P g h ws cs os vs ds es t e le p w =
     }
 
 -- one call of a script: too short an `out`
-pub step-idle : (P : Stepped → Type 0) (l : LentAll) → length (l .out) < 5 → StepReported P l l
+pub step-idle : (P : Step UnitState → Type 0) (l : LentAll) → length (l .out) < 5 → StepReported P l l
 step-idle P l h = record { idle = (λ k. refl); ran = (λ k. absurd (omega arith)) }
 
 -- and run, under the handle made of the two numbers
-pub step-ran : (P : Handle → Stepped → Type 0) (g h : Handle) (l : LentAll) (t : Reply) (ws cs im os : List ℕ) → g ≡ h → 5 ≤ length (l .out)
-    → P g (stepped t ws cs im) → os ≡ fiveOver (five (t .refusal) (t .first) (t .second) (t .handle)) (l .out) → StepReported (P h) l (lentAll ws cs im os)
+pub step-ran : (P : Handle → Step UnitState → Type 0) (g h : Handle) (l : LentAll) (t : Reply) (ws cs im os : List ℕ) → g ≡ h → 5 ≤ length (l .out)
+    → P g (unitStep t ws cs im) → os ≡ fiveOver (five (t .refusal) (t .first) (t .second) (t .handle)) (l .out) → StepReported (P h) l (lentAll ws cs im os)
 step-ran P g h l t ws cs im os e le p w =
     record {
       idle = (λ k. absurd (omega arith));
-      ran = (λ k. record { stepped = stepped t ws cs im; holds = subst (λ (k : Handle). P k (stepped t ws cs im)) e p; same = ap (lentAll ws cs im) w });
+      ran = (λ k. record { step = unitStep t ws cs im; holds = subst (λ (k : Handle). P k (unitStep t ws cs im)) e p; same = ap (lentAll ws cs im) w });
     }

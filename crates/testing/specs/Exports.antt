@@ -7,8 +7,9 @@ use lib.ListN.{length, drop}
 use lib.Dec.{ltb}
 use Rattle.words.specs.declared.handle.Handle.{Handle}
 use Rattle.words.specs.Handles.{handle}
-use Rattle.machine.specs.Driver.{Stepped}
 use Rattle.counters.specs.Promises.{CreatedTold, created, uncreated, ChangedTold, done, kept, Outcome}
+use Rattle.machine.specs.Machine.{Step}
+use Rattle.machine.specs.Unit.{UnitState}
 
 -- five numbers: refusal or 0, first value, second value or 0, capacity and length of the handle to go on with
 abbrev pub five : ℕ → ℕ → ℕ → Handle → List ℕ
@@ -37,8 +38,8 @@ abbrev pub lent : List ℕ → List ℕ → List ℕ → Lent
 lent ws cs os = record { words = ws; counters = cs; out = os }
 
 -- the buffers after a call with this outcome
-abbrev pub after : {A : Type 0} → (A → List ℕ) → List ℕ → Outcome A → Lent
-after numbers os o = lent (o .words) (o .counters) (fiveOver (numbers (o .told)) os)
+abbrev pub lentAfter : {A : Type 0} → (A → List ℕ) → List ℕ → Outcome A → Lent
+lentAfter numbers os o = lent (o .words) (o .counters) (fiveOver (numbers (o .told)) os)
 
 -- `out` has fewer than five numbers: nothing runs
 abbrev pub short : List ℕ → Bool
@@ -46,17 +47,17 @@ short os = ltb (length os) 5
 
 -- a call whose outcome is fixed
 abbrev pub reported : {A : Type 0} → (A → List ℕ) → List ℕ → List ℕ → List ℕ → Outcome A → Lent
-reported numbers ws cs os o = cond (short os) (lent ws cs os) (after numbers os o)
+reported numbers ws cs os o = cond (short os) (lent ws cs os) (lentAfter numbers os o)
 
 -- a change with some outcome of which P holds
-pub record Ran (P : Outcome ChangedTold → Type 0) (os : List ℕ) (l : Lent) : Type 0 where
+pub record ChangeRan (P : Outcome ChangedTold → Type 0) (os : List ℕ) (l : Lent) : Type 0 where
   pub outcome : Outcome ChangedTold
   pub holds : P outcome
-  pub same : l ≡ after changedFive os outcome
+  pub same : l ≡ lentAfter changedFive os outcome
 
 pub record Reported (P : Outcome ChangedTold → Type 0) (ws cs os : List ℕ) (l : Lent) : Type 0 where
   pub idle : length os < 5 → l ≡ lent ws cs os
-  pub ran : 5 ≤ length os → Ran P os l
+  pub ran : 5 ≤ length os → ChangeRan P os l
 
 -- the four lent buffers of a step
 pub record LentAll : Type 0 where
@@ -69,16 +70,16 @@ abbrev pub lentAll : List ℕ → List ℕ → List ℕ → List ℕ → LentAll
 lentAll ws cs im os = record { words = ws; counters = cs; image = im; out = os }
 
 -- a step's five numbers
-abbrev pub stepFive : Stepped → List ℕ
-stepFive y = five (y .reply .refusal) (y .reply .first) (y .reply .second) (y .reply .handle)
+abbrev pub stepFive : Step UnitState → List ℕ
+stepFive y = five (y .refusal) (y .first) (y .second) (y .next .strip .handle)
 
 -- a step with some outcome of which P holds
-pub record StepRan (P : Stepped → Type 0) (os : List ℕ) (m : LentAll) : Type 0 where
-  pub stepped : Stepped
-  pub holds : P stepped
-  pub same : m ≡ lentAll (stepped .words) (stepped .counters) (stepped .image) (fiveOver (stepFive stepped) os)
+pub record StepRan (P : Step UnitState → Type 0) (os : List ℕ) (m : LentAll) : Type 0 where
+  pub step : Step UnitState
+  pub holds : P step
+  pub same : m ≡ lentAll (step .next .strip .words) (step .next .strip .counters) (step .next .image) (fiveOver (stepFive step) os)
 
 -- with fewer than five places in `out` nothing runs
-pub record StepReported (P : Stepped → Type 0) (l m : LentAll) : Type 0 where
+pub record StepReported (P : Step UnitState → Type 0) (l m : LentAll) : Type 0 where
   pub idle : length (l .out) < 5 → m ≡ l
   pub ran : 5 ≤ length (l .out) → StepRan P (l .out) m

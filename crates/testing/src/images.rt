@@ -1,7 +1,7 @@
 // The calls on an image. A refusal comes as 2^32 plus its number.
 ghost use mathlib.Core.Path.{_≡_};
 ghost use Rattle.words.specs.Refusals.{toldOf, coded as codedOf, CodedAs};
-ghost use Rattle.words.specs.Handles.{handle as handleOf};
+ghost use Rattle.words.specs.Handles.{handle};
 ghost use Rattle.image.specs.Calls.{clearOutcome, freezeOutcome, openTold, openPart, heldLength, partGetTold, PartRanked, PartSelected, rowGetTold, RowRanked, RowSelected};
 use image::clear::clear;
 use image::freeze::freeze;
@@ -34,7 +34,8 @@ pub extern "C" fn image_freeze(
     image: &mut [u8],
     label: usize,
 ) -> u64
-    ensures { λ r. ⌜ (r ≡ codedOf (freezeOutcome (handleOf capacity length) (now (words .entry)) (now (image .entry)) label .told)) × (now (image .exit) ≡ freezeOutcome (handleOf capacity length) (now (words .entry)) (now (image .entry)) label .image) ⌝ }
+    ensures { λ r. ⌜ (r ≡ codedOf (freezeOutcome (handle capacity length) (now (words .entry)) (now (image .entry)) label .told)) ×
+        (now (image .exit) ≡ freezeOutcome (handle capacity length) (now (words .entry)) (now (image .entry)) label .image) ⌝ }
 {
     coded(freeze(Handle::new(capacity, length), words, image, label))
 }

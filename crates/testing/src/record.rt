@@ -3,10 +3,10 @@
 ghost use mathlib.Core.Path.{_≡_};
 ghost use Prim.Native.Nat.{_≤_};
 ghost use lib.ListN.{length};
-ghost use Rattle.words.specs.Handles.{handle as handleOf};
+ghost use Rattle.words.specs.Handles.{handle};
 ghost use Rattle.counters.specs.Promises.{createdOf, changedOf};
-ghost use Rattle.counters.specs.Calls.{Ranked, Selected, Verified, createOutcome, Pushed, Flipped, fillOutcome, truncateOutcome};
-ghost use Rattle.words.specs.Refusals.{CodedAs};
+ghost use Rattle.counters.specs.Calls.{Ranked, Selected, verifyTold, createOutcome, Pushed, Flipped, fillOutcome, truncateOutcome};
+ghost use Rattle.words.specs.Refusals.{coded as codedOf, CodedAs};
 ghost use Rattle.testing.specs.Exports.{five, changedFive, createdFive, fiveOver, lent, reported, Reported};
 use counters::answer::Changed;
 use counters::answer::Created;
@@ -32,7 +32,7 @@ pub extern "C" fn strip_rank(
     v: u64,
     i: usize,
 ) -> u64
-    ensures { λ r. ⌜ CodedAs (Ranked (handleOf capacity length) v i (now (words .entry)) (now (counters .entry))) r ⌝ }
+    ensures { λ r. ⌜ CodedAs (Ranked (handle capacity length) v i (now (words .entry)) (now (counters .entry))) r ⌝ }
 {
     coded(rank(Handle::new(capacity, length), words, counters, v, i))
 }
@@ -47,7 +47,7 @@ pub extern "C" fn strip_select(
     v: u64,
     k: usize,
 ) -> u64
-    ensures { λ r. ⌜ CodedAs (Selected (handleOf capacity length) v k (now (words .entry)) (now (counters .entry))) r ⌝ }
+    ensures { λ r. ⌜ CodedAs (Selected (handle capacity length) v k (now (words .entry)) (now (counters .entry))) r ⌝ }
 {
     coded(select(Handle::new(capacity, length), words, counters, v, k))
 }
@@ -60,7 +60,7 @@ pub extern "C" fn strip_verify(
     words: &[u64],
     counters: &[u32],
 ) -> u64
-    ensures { λ r. ⌜ CodedAs (Verified (handleOf capacity length) (now (words .entry)) (now (counters .entry))) r ⌝ }
+    ensures { λ r. ⌜ r ≡ codedOf (verifyTold (handle capacity length) (now (words .entry)) (now (counters .entry))) ⌝ }
 {
     coded(verify(Handle::new(capacity, length), words, counters))
 }
@@ -107,7 +107,8 @@ pub extern "C" fn strip_create(
     counters: &mut [u32],
     out: &mut [u64],
 )
-    ensures { λ _. ⌜ lent (now (words .exit)) (now (counters .exit)) (now (out .exit)) ≡ reported createdFive (now (words .entry)) (now (counters .entry)) (now (out .entry)) (createOutcome capacity (now (words .entry)) (now (counters .entry))) ⌝ }
+    ensures { λ _. ⌜ lent (now (words .exit)) (now (counters .exit)) (now (out .exit)) ≡ reported createdFive (now (words .entry))
+        (now (counters .entry)) (now (out .entry)) (createOutcome capacity (now (words .entry)) (now (counters .entry))) ⌝ }
 {
     if out.len() < 5 {
         return;
@@ -126,7 +127,8 @@ pub extern "C" fn strip_push(
     v: u64,
     out: &mut [u64],
 )
-    ensures { λ _. ⌜ Reported (Pushed (handleOf capacity length) v (now (words .entry)) (now (counters .entry))) (now (words .entry)) (now (counters .entry)) (now (out .entry)) (lent (now (words .exit)) (now (counters .exit)) (now (out .exit))) ⌝ }
+    ensures { λ _. ⌜ Reported (Pushed (handle capacity length) v (now (words .entry)) (now (counters .entry))) (now (words .entry))
+        (now (counters .entry)) (now (out .entry)) (lent (now (words .exit)) (now (counters .exit)) (now (out .exit))) ⌝ }
 {
     if out.len() < 5 {
         return;
@@ -145,7 +147,8 @@ pub extern "C" fn strip_flip(
     i: usize,
     out: &mut [u64],
 )
-    ensures { λ _. ⌜ Reported (Flipped (handleOf capacity length) i (now (words .entry)) (now (counters .entry))) (now (words .entry)) (now (counters .entry)) (now (out .entry)) (lent (now (words .exit)) (now (counters .exit)) (now (out .exit))) ⌝ }
+    ensures { λ _. ⌜ Reported (Flipped (handle capacity length) i (now (words .entry)) (now (counters .entry))) (now (words .entry))
+        (now (counters .entry)) (now (out .entry)) (lent (now (words .exit)) (now (counters .exit)) (now (out .exit))) ⌝ }
 {
     if out.len() < 5 {
         return;
@@ -166,7 +169,8 @@ pub extern "C" fn strip_fill(
     v: u64,
     out: &mut [u64],
 )
-    ensures { λ _. ⌜ lent (now (words .exit)) (now (counters .exit)) (now (out .exit)) ≡ reported changedFive (now (words .entry)) (now (counters .entry)) (now (out .entry)) (fillOutcome (handleOf capacity length) a b v (now (words .entry)) (now (counters .entry))) ⌝ }
+    ensures { λ _. ⌜ lent (now (words .exit)) (now (counters .exit)) (now (out .exit)) ≡ reported changedFive (now (words .entry))
+        (now (counters .entry)) (now (out .entry)) (fillOutcome (handle capacity length) a b v (now (words .entry)) (now (counters .entry))) ⌝ }
 {
     if out.len() < 5 {
         return;
@@ -185,7 +189,8 @@ pub extern "C" fn strip_truncate(
     n: usize,
     out: &mut [u64],
 )
-    ensures { λ _. ⌜ lent (now (words .exit)) (now (counters .exit)) (now (out .exit)) ≡ reported changedFive (now (words .entry)) (now (counters .entry)) (now (out .entry)) (truncateOutcome (handleOf capacity length) n (now (words .entry)) (now (counters .entry))) ⌝ }
+    ensures { λ _. ⌜ lent (now (words .exit)) (now (counters .exit)) (now (out .exit)) ≡ reported changedFive (now (words .entry))
+        (now (counters .entry)) (now (out .entry)) (truncateOutcome (handle capacity length) n (now (words .entry)) (now (counters .entry))) ⌝ }
 {
     if out.len() < 5 {
         return;

@@ -1,7 +1,8 @@
 // Scripts of calls, and one call of a script on any record and image.
-ghost use Rattle.words.specs.Handles.{handle as handleOf};
+ghost use Rattle.words.specs.Handles.{handle};
 ghost use Rattle.machine.specs.Scripts.{called};
-ghost use Rattle.machine.specs.Driver.{held, Acted, ended, Executed};
+ghost use Rattle.machine.specs.Unit.{stripRecord, unitState, Acted};
+ghost use Rattle.machine.specs.Runner.{ended, Executed};
 ghost use Rattle.testing.specs.Exports.{lentAll, StepReported};
 use super::record::write_five;
 use machine::execute::execute;
@@ -19,7 +20,8 @@ pub extern "C" fn strip_execute(
     image: &mut [u8],
     answers: &mut [u64],
 ) -> u64
-    ensures { λ r. ⌜ Executed (now (script .entry)) capacity order (now (words .entry)) (now (counters .entry)) (now (image .entry)) (now (answers .entry)) (ended r (now (words .exit)) (now (counters .exit)) (now (image .exit)) (now (answers .exit))) ⌝ }
+    ensures { λ r. ⌜ Executed (now (script .entry)) capacity order (now (words .entry)) (now (counters .entry)) (now (image .entry))
+        (now (answers .entry)) (ended r (now (words .exit)) (now (counters .exit)) (now (image .exit)) (now (answers .exit))) ⌝ }
 {
     execute(
         script,
@@ -47,7 +49,10 @@ pub extern "C" fn strip_step(
     image: &mut [u8],
     out: &mut [u64],
 )
-    ensures { λ _. ⌜ StepReported (Acted (called op x y z) (held (handleOf capacity length) (now (words .entry)) (now (counters .entry)) (now (image .entry)))) (lentAll (now (words .entry)) (now (counters .entry)) (now (image .entry)) (now (out .entry))) (lentAll (now (words .exit)) (now (counters .exit)) (now (image .exit)) (now (out .exit))) ⌝ }
+    ensures { λ _. ⌜ StepReported (Acted (called op x y z)
+        (unitState (stripRecord (handle capacity length) (now (words .entry)) (now (counters .entry))) (now (image .entry))))
+        (lentAll (now (words .entry)) (now (counters .entry)) (now (image .entry)) (now (out .entry)))
+        (lentAll (now (words .exit)) (now (counters .exit)) (now (image .exit)) (now (out .exit))) ⌝ }
 {
     if out.len() < 5 {
         return;

@@ -1,7 +1,7 @@
 // The calls on words alone. A refusal comes as 2^32 plus its number.
 ghost use mathlib.Core.Path.{_≡_};
 ghost use Rattle.words.specs.Refusals.{coded as codedOf};
-ghost use Rattle.words.specs.Handles.{handle as handleOf};
+ghost use Rattle.words.specs.Handles.{handle};
 ghost use Rattle.words.specs.Calls.{getTold, successorTold, predecessorTold};
 ghost use Rattle.words.specs.Words.{selectIn};
 use words::handle::Handle;
@@ -14,7 +14,7 @@ use words::strip::successor;
 // look(i): the bit at position i.
 #[no_mangle]
 pub extern "C" fn strip_get(capacity: usize, length: usize, words: &[u64], i: usize) -> u64
-    ensures { λ r. ⌜ r ≡ codedOf (getTold (handleOf capacity length) (now (words .entry)) i) ⌝ }
+    ensures { λ r. ⌜ r ≡ codedOf (getTold (handle capacity length) (now (words .entry)) i) ⌝ }
 {
     coded(get(Handle::new(capacity, length), words, i))
 }
@@ -28,7 +28,7 @@ pub extern "C" fn strip_successor(
     v: u64,
     i: usize,
 ) -> u64
-    ensures { λ r. ⌜ r ≡ codedOf (successorTold (handleOf capacity length) (now (words .entry)) v i) ⌝ }
+    ensures { λ r. ⌜ r ≡ codedOf (successorTold (handle capacity length) (now (words .entry)) v i) ⌝ }
 {
     coded(successor(Handle::new(capacity, length), words, v, i))
 }
@@ -42,7 +42,7 @@ pub extern "C" fn strip_predecessor(
     v: u64,
     i: usize,
 ) -> u64
-    ensures { λ r. ⌜ r ≡ codedOf (predecessorTold (handleOf capacity length) (now (words .entry)) v i) ⌝ }
+    ensures { λ r. ⌜ r ≡ codedOf (predecessorTold (handle capacity length) (now (words .entry)) v i) ⌝ }
 {
     coded(predecessor(Handle::new(capacity, length), words, v, i))
 }

@@ -9,7 +9,7 @@ use lib.Arith.{lt-one, digits-mod}
 use lib.Pow.{pow-pos, pow-mono, pow-add, shr-shr, field, mod-mod-pow, shl-exact, shl-lt, shr-lt, high, ones-lt, ones-split, high-ones}
 use lib.Bits.{bitAnd, bitOr, bitXor, differ, and-mask, and-shr, and-step, or-shr, or-step, xor-shr, xor-step, xor-add-and}
 use lib.Count as C
-use Rattle.words.specs.Bits.{bit, ones}
+use Rattle.words.specs.Bits.{bit, sumTo, ones}
 use Rattle.words.proofs.Sums as S
 
 pub bit-lt : (x p : ℕ) → bit x p < 2
@@ -66,22 +66,22 @@ one-shl i h = shl-exact {a = 1} 1 i 64 (lit< tt) (subst (λ (x : ℕ). x ≤ 64)
 -- ---- the machine's count of ones
 pub count-is : (k x : ℕ) → x < 2 ^ k → C.ones x ≡ ones (bit x) k
 unfolding C.ones
-count-is zero x h = ap C.ones (lt-one h) ∙ sym (S.ones-zero (bit x))
+count-is zero x h = ap C.ones (lt-one h) ∙ sym (S.sum-zero (bit x))
 count-is (suc k) x h =
     let low : bit x 0 ≡ x % 2 = ap (λ (n : ℕ). n % 2) (div-one x) in
-    let rest : ones (bit (x / 2)) k ≡ ones (λ p. bit x (1 + p)) k = S.ones-ext (bit (x / 2)) (λ p. bit x (1 + p)) k (λ p l. bit-shr x 1 p) in
+    let rest : ones (bit (x / 2)) k ≡ ones (λ p. bit x (1 + p)) k = S.sum-ext (bit (x / 2)) (λ p. bit x (1 + p)) k (λ p l. bit-shr x 1 p) in
     let ih : C.ones (x / 2) ≡ ones (bit (x / 2)) k = count-is k (x / 2) (shr-lt k 1 (subst (λ (n : ℕ). x < 2 ^ n) (sym (add-one k)) h)) in
-    let s : ones (bit x) (1 + k) ≡ ones (bit x) 1 + ones (λ p. bit x (1 + p)) k = S.ones-split (bit x) 1 k in
-    let one : ones (bit x) 1 ≡ ones (bit x) 0 + bit x 0 = S.ones-suc (bit x) 0 in
+    let s : ones (bit x) (1 + k) ≡ ones (bit x) 1 + ones (λ p. bit x (1 + p)) k = S.sum-split (bit x) 1 k in
+    let one : ones (bit x) 1 ≡ ones (bit x) 0 + bit x 0 = S.sum-suc (bit x) 0 in
     let step : C.ones x ≡ x % 2 + C.ones (x / 2) = C.ones-step x in
     let t : ones (bit x) (1 + k) ≡ ones (bit x) (suc k) = ap (ones (bit x)) (one-add k) in
-    omega (arith, S.ones-zero (bit x), low, rest, ih, s, one, step, t)
+    omega (arith, S.sum-zero (bit x), low, rest, ih, s, one, step, t)
 
 -- the ones of the low i bits, as those of a number with no other
 pub ones-mod : (x i n : ℕ) → i ≤ n → ones (bit (x % 2 ^ i)) n ≡ ones (bit x) i
 ones-mod x i n h =
-    S.ones-flat (bit (x % 2 ^ i)) i n h (λ p l. bit-high (x % 2 ^ i) i p (mod-lt x (pow-pos i)) l)
-    ∙ S.ones-ext (bit (x % 2 ^ i)) (bit x) i (λ p l. bit-mod x i p l)
+    S.sum-flat (bit (x % 2 ^ i)) i n h (λ p l. bit-high (x % 2 ^ i) i p (mod-lt x (pow-pos i)) l)
+    ∙ S.sum-ext (bit (x % 2 ^ i)) (bit x) i (λ p l. bit-mod x i p l)
 
 -- those that a mask of the low i bits leaves
 pub masked-ones : (x i : ℕ) → i ≤ 64 → ones (bit (bitAnd x (2 ^ i - 1))) 64 ≡ ones (bit x) i

@@ -7,7 +7,7 @@ use native.Mathlib.Omega.{arith}
 use lib.ListN.{getD}
 use lib.Bits.{bitAnd}
 use Rattle.words.specs.Bits.{bit, bitAt, ones}
-use Rattle.words.proofs.Sums.{lt-or, ones-zero}
+use Rattle.words.proofs.Sums.{lt-or, sum-zero}
 use Rattle.words.proofs.BitLaws.{masked-ones}
 use Rattle.words.proofs.WordLaws.{word-ones}
 
@@ -31,4 +31,4 @@ masked-word ws m j = go (lt-or (64 * j) m)
     go (inr l) =
         let z : i ≡ 0 = omega arith in
         let e : min (64 * j) m ≡ min (64 * (j + 1)) m = omega arith in
-        omega (arith, left, ap (ones (bit (getD ws j 0))) z, ones-zero (bit (getD ws j 0)), ap (ones (bitAt ws)) e)
+        omega (arith, left, ap (ones (bit (getD ws j 0))) z, sum-zero (bit (getD ws j 0)), ap (ones (bitAt ws)) e)

@@ -9,7 +9,7 @@ use lib.ListN.{getD}
 use Rattle.words.specs.Bits.{bit, bitAt}
 use Rattle.words.specs.Strip.{holds, rankOf, selectOf}
 use Rattle.words.specs.Words.{placeIn, selectIn}
-use Rattle.words.proofs.Sums.{lt-or, ones-zero, ones-mono}
+use Rattle.words.proofs.Sums.{lt-or, sum-zero, sum-mono}
 use Rattle.words.proofs.WordLaws.{word-bit}
 use Rattle.words.proofs.SearchLaws.{rank-part, placeIn-none, part-select}
 
@@ -28,7 +28,7 @@ pub record Passed (f : ℕ → ℕ) (v k i j passed : ℕ) : Type 0 where
 
 -- at the start
 pub passed-none : (f : ℕ → ℕ) (v k : ℕ) → Passed f v k 0 0 0
-passed-none f v k = record { within = zero-le; count = sym (ones-zero (holds f v)); low = zero-le; above = (λ l. absurd (omega arith)) }
+passed-none f v k = record { within = zero-le; count = sym (sum-zero (holds f v)); low = zero-le; above = (λ l. absurd (omega arith)) }
 
 -- one more word, with which there are `sum` of v: at most k or above it
 pub passed-more : (f : ℕ → ℕ) (v k i j passed sum m rest : ℕ) → sum ≡ rankOf f v (64 * (i + 1)) → Passed f v k i j passed
@@ -43,7 +43,7 @@ passed-more f v k i j passed sum m rest e h (inl w) =
     }
   where
     full : (j < i) ⊎ (i ≤ j) → i ≡ j
-    full (inl l) = let up : 64 * (j + 1) ≤ 64 * (i + 1) = omega arith in absurd (omega (arith, h .above l, ones-mono (holds f v) up, e, w .0))
+    full (inl l) = let up : 64 * (j + 1) ≤ 64 * (i + 1) = omega arith in absurd (omega (arith, h .above l, sum-mono (holds f v) up, e, w .0))
     full (inr l) = omega (arith, h .within)
 passed-more f v k i j passed sum m rest e h (inr w) =
     record {

@@ -11,7 +11,7 @@ use lib.ListN.{length, getD, set, drop, replicate, length-set}
 use lib.Seq.{getD-set-same, getD-set-other, drop-length}
 use borrow.Author.Fill.{fill-none, fill-more}
 use Rattle.words.specs.Bits.{bit, bitAt, ones}
-use Rattle.words.specs.Working.{Written, RangePut}
+use Rattle.words.specs.Working.{WordPut, RangePut}
 use Rattle.words.proofs.Sums.{lt-or}
 use Rattle.words.proofs.WordLaws.{word-bit}
 
@@ -75,7 +75,7 @@ word-stored ws k i j b r h w new old =
     kept p o (no m) = other-bit ws k r p m
 
 -- word k with its bits from i to j - 1 made b
-pub word-put : (ws : List ℕ) (k i j b r : ℕ) → k < length ws → j ≤ 64 → Written (getD ws k 0) i j b r → RangePut ws (64 * k + i) (64 * k + j) b (set ws k r)
+pub word-put : (ws : List ℕ) (k i j b r : ℕ) → k < length ws → j ≤ 64 → WordPut (getD ws k 0) i j b r → RangePut ws (64 * k + i) (64 * k + j) b (set ws k r)
 word-put ws k i j b r h w x = word-stored ws k i j b r h w (x .inside) (λ q l o. outside q o)
   where
     outside : (q : ℕ) → (q < i) ⊎ (j ≤ q) → bit r q ≡ bit (getD ws k 0) q
@@ -83,7 +83,7 @@ word-put ws k i j b r h w x = word-stored ws k i j b r h w (x .inside) (λ q l o
     outside q (inr l) = x .over q l
 
 -- the one position p
-pub position-put : (ws : List ℕ) (p b r : ℕ) → p < 64 * length ws → Written (getD ws (p / 64) 0) (p % 64) (p % 64 + 1) b r
+pub position-put : (ws : List ℕ) (p b r : ℕ) → p < 64 * length ws → WordPut (getD ws (p / 64) 0) (p % 64) (p % 64 + 1) b r
     → RangePut ws p (p + 1) b (set ws (p / 64) r)
 position-put ws p b r h x =
     put-ends ws (set ws (p / 64) r) (64 * (p / 64) + p % 64) p (64 * (p / 64) + (p % 64 + 1)) (p + 1) b (omega arith) (omega arith)

@@ -10,17 +10,17 @@ use lib.Dec.{leb, lit<, lit≤}
 use lib.Arith.{digits-mod}
 use lib.Pow.{pow-pos, shr-mod}
 use lib.Bits.{bitAnd, and-high}
-use Rattle.words.specs.Bits.{bit, digits, ones}
+use Rattle.words.specs.Bits.{bit, digits, sumTo, ones}
 use Rattle.words.specs.Words.{byteOf, onesInByte, Prefixes}
 use Rattle.words.specs.Working.{atMost}
-use Rattle.words.proofs.Sums.{ones-le, ones-most}
+use Rattle.words.proofs.Sums.{ones-le, sum-most}
 use Rattle.words.proofs.BitLaws.{bit-le}
 use Rattle.words.proofs.DigitLaws.{field, digits-ext, digits-add, digits-mul, digits-at, digits-of, digits-and}
 
 -- ---- the product of eight lanes by 0x0101_0101_0101_0101
 -- lane j of it is the sum of the lanes 0 to j
 pub lane-sums : (g : ℕ → ℕ) → ((i : ℕ) → g i ≤ 8) → (digits (2 ^ 8) g 8 * 0x0101_0101_0101_0101) % 2 ^ 64 ≡ digits (2 ^ 8) (λ j. ones g (suc j)) 8
-unfolding digits ones
+unfolding digits sumTo
 lane-sums g h =
     let over : ℕ =
     g 1 + g 2 * 0x0101 + g 3 * 0x01_0101 + g 4 * 0x0101_0101 + g 5 * 0x01_0101_0101 + g 6 * 0x0101_0101_0101 + g 7 * 0x01_0101_0101_0101 in
@@ -32,7 +32,7 @@ lane-sums g h =
 pub lane-sum : (g : ℕ → ℕ) → ((i : ℕ) → g i ≤ 8) → (j : ℕ) → j < 8 → byteOf ((digits (2 ^ 8) g 8 * 0x0101_0101_0101_0101) % 2 ^ 64) j ≡ ones g (suc j)
 lane-sum g h j l =
     ap (λ (t : ℕ). byteOf t j) (lane-sums g h)
-    ∙ digits-at 8 (λ i. ones g (suc i)) 8 j (λ i q. omega (arith, ones-most g 8 (suc i) h)) l
+    ∙ digits-at 8 (λ i. ones g (suc i)) 8 j (λ i q. omega (arith, sum-most g 8 (suc i) h)) l
 
 -- the top lane, by a shift
 pub top-lane : (g : ℕ → ℕ) → ((i : ℕ) → g i ≤ 8) → (digits (2 ^ 8) g 8 * 0x0101_0101_0101_0101) % 2 ^ 64 / 2 ^ 56 ≡ ones g 8

@@ -1,4 +1,5 @@
 pub mod BoolLaws
+pub mod SameLaws
 pub mod Sums
 pub mod BitLaws
 mod Wrapping

@@ -8,7 +8,7 @@ use lib.Pow.{pow-mono, ones-lt, shr-shr, mod-mod-pow}
 use lib.Bits.{bitAnd, and-mask}
 use Rattle.words.specs.Bits.{bit, digits, ones}
 use Rattle.words.specs.Words.{byteOf, onesInByte}
-use Rattle.words.proofs.Sums.{ones-zero, ones-suc, ones-ext, ones-split, ones-le}
+use Rattle.words.proofs.Sums.{sum-zero, sum-suc, sum-ext, sum-split, ones-le}
 use Rattle.words.proofs.BitLaws.{bit-le, byte-bit}
 use Rattle.words.proofs.DigitLaws.{field, digits-ext, digits-add, digits-at, digits-and}
 
@@ -17,8 +17,8 @@ abbrev pub fieldOnes : ℕ → ℕ → ℕ → ℕ
 fieldOnes x w i = ones (λ p. bit x (w * i + p)) w
 
 -- the fields of y count the ones of the fields of x: n fields of w bits
-abbrev Counted : ℕ → ℕ → ℕ → ℕ → Type 0
-Counted x w n y = (j : ℕ) → j < n → field w y j ≡ fieldOnes x w j
+abbrev FieldsCounted : ℕ → ℕ → ℕ → ℕ → Type 0
+FieldsCounted x w n y = (j : ℕ) → j < n → field w y j ≡ fieldOnes x w j
 
 -- the low halves of m fields of k + k bits
 abbrev evens : ℕ → ℕ → ℕ
@@ -48,11 +48,11 @@ fieldOnes-double : (x k i : ℕ) → fieldOnes x k (i + i) + fieldOnes x k (suc 
 fieldOnes-double x k i =
     let first : fieldOnes x k (i + i) ≡ ones (λ p. bit x ((k + k) * i + p)) k = ap (λ (e : ℕ). ones (λ p. bit x (e + p)) k) (sym (double k i)) in
     let second : fieldOnes x k (suc (i + i)) ≡ ones (λ p. bit x ((k + k) * i + (k + p))) k =
-    ones-ext (λ p. bit x (k * suc (i + i) + p)) (λ p. bit x ((k + k) * i + (k + p))) k (λ p l. ap (bit x) (omega (arith, double-next k i))) in
-    ap₂ (λ (a b : ℕ). a + b) first second ∙ sym (ones-split (λ p. bit x ((k + k) * i + p)) k k)
+    sum-ext (λ p. bit x (k * suc (i + i) + p)) (λ p. bit x ((k + k) * i + (k + p))) k (λ p l. ap (bit x) (omega (arith, double-next k i))) in
+    ap₂ (λ (a b : ℕ). a + b) first second ∙ sym (sum-split (λ p. bit x ((k + k) * i + p)) k k)
 
 -- counts of fields of k bits become counts of fields of k + k bits
-pub pairing : (x k m y mask : ℕ) → mask ≡ evens k m → Counted x k (m + m) y → halves mask k y ≡ digits (2 ^ (k + k)) (fieldOnes x (k + k)) m
+pub pairing : (x k m y mask : ℕ) → mask ≡ evens k m → FieldsCounted x k (m + m) y → halves mask k y ≡ digits (2 ^ (k + k)) (fieldOnes x (k + k)) m
 pairing x k m y mask e counted =
     let first : (i : ℕ) → i < m → y / 2 ^ ((k + k) * i) % 2 ^ k ≡ fieldOnes x k (i + i) =
     (λ i l. ap (λ (t : ℕ). y / 2 ^ t % 2 ^ k) (double k i) ∙ counted (i + i) (omega arith)) in
@@ -73,22 +73,22 @@ lt-two-pow zero = lit< tt
 lt-two-pow (suc w) = omega (arith, lt-two-pow w, two-pow-succ w)
 
 -- a number put together of counts counts
-pub counted-digits : (x w n y : ℕ) → y ≡ digits (2 ^ w) (fieldOnes x w) n → Counted x w n y
+pub counted-digits : (x w n y : ℕ) → y ≡ digits (2 ^ w) (fieldOnes x w) n → FieldsCounted x w n y
 counted-digits x w n y e j l =
     ap (λ (t : ℕ). field w t j) e
     ∙ digits-at w (fieldOnes x w) n j (λ i q.
     lt-of-le-of-lt (ones-le (λ p. bit x (w * i + p)) w (λ p. bit-le x (w * i + p))) (lt-two-pow w)) l
 
 -- a number's bits count themselves
-counted-bits : (x n : ℕ) → Counted x 1 n x
+counted-bits : (x n : ℕ) → FieldsCounted x 1 n x
 counted-bits x n j l =
     let f : ℕ → ℕ = (λ p. bit x (1 * j + p)) in
     let only : f 0 ≡ bit x (1 * j) = ap (bit x) (add-zero (1 * j)) in
-    omega (arith, ones-suc f 0, ones-zero f)
+    omega (arith, sum-suc f 0, sum-zero f)
 
 -- a field of eight bits is a byte
 fieldOnes-byte : (x i : ℕ) → fieldOnes x 8 i ≡ onesInByte x i
-fieldOnes-byte x i = ones-ext (λ p. bit x (8 * i + p)) (bit (byteOf x i)) 8 (λ p l. sym (byte-bit x (8 * i) p l))
+fieldOnes-byte x i = sum-ext (λ p. bit x (8 * i + p)) (bit (byteOf x i)) 8 (λ p l. sym (byte-bit x (8 * i) p l))
 
 -- three pairings count the ones of each byte
 pub byte-law : (x : ℕ)

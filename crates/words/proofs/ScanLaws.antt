@@ -16,7 +16,7 @@ use lib.Count.{leadingZeros, leading-top, trailingZeros, under}
 use borrow.Author.Tests.{eqb-true, eq-eqb, leb-true, le-leb}
 use Rattle.words.specs.Bits.{bit, bitAt, ones}
 use Rattle.words.specs.Strip.{holds, successorOf, predecessorOf}
-use Rattle.words.specs.Working.{Written, Matched, FirstFrom, LastBefore}
+use Rattle.words.specs.Working.{WordPut, Matched, FirstFrom, LastBefore}
 use Rattle.words.proofs.BoolLaws.{and-intro, and-first, and-second}
 use Rattle.words.proofs.Sums.{lt-or, rank-one}
 use Rattle.words.proofs.BitLaws.{bit-le, zero-bit, bit-shr, bit-high, bit-top}
@@ -199,7 +199,7 @@ marked-word ws j k v x s h =
     holding p b (no d) = absurd (omega (arith, b, holds-no (bit (getD ws j 0)) v p d))
 
 -- with the bits below position i cleared
-marked-low : (f : ℕ → ℕ) (v a e s i x r : ℕ) → a + s ≡ i → Marked f v a a e x → Written x 0 s 0 r → Marked f v a i e r
+marked-low : (f : ℕ → ℕ) (v a e s i x r : ℕ) → a + s ≡ i → Marked f v a a e x → WordPut x 0 s 0 r → Marked f v a i e r
 marked-low f v a e s i x r g m w =
     record {
       start = omega arith;
@@ -218,7 +218,7 @@ marked-low f v a e s i x r g m w =
     same p b = sym (w .over p (from p b (lt-or p s))) ∙ b
 
 -- with the bits from position i on cleared
-marked-high : (f : ℕ → ℕ) (v a e s i x r : ℕ) → a + s ≡ i → i ≤ e → Marked f v a a e x → Written x s 64 0 r → Marked f v a a i r
+marked-high : (f : ℕ → ℕ) (v a e s i x r : ℕ) → a + s ≡ i → i ≤ e → Marked f v a a e x → WordPut x s 64 0 r → Marked f v a a i r
 marked-high f v a e s i x r g h m w =
     record {
       start = m .start;
@@ -234,13 +234,13 @@ marked-high f v a e s i x r g h m w =
     upto p l b (inr u) = absurd (omega (arith, w .inside p u l))
 
 -- the word of position i, from i on
-pub marked-from : (ws : List ℕ) (v i x r : ℕ) → Matched (getD ws (i / 64) 0) v x → Written x 0 (i % 64) 0 r
+pub marked-from : (ws : List ℕ) (v i x r : ℕ) → Matched (getD ws (i / 64) 0) v x → WordPut x 0 (i % 64) 0 r
     → Marked (bitAt ws) v (64 * (i / 64)) i (64 * (i / 64 + 1)) r
 marked-from ws v i x r h w =
     marked-low (bitAt ws) v (64 * (i / 64)) (64 * (i / 64 + 1)) (i % 64) i x r (omega arith) (marked-word ws (i / 64) (i / 64 + 1) v x refl h) w
 
 -- the word of position i, below i
-pub marked-under : (ws : List ℕ) (v i x r : ℕ) → Matched (getD ws (i / 64) 0) v x → Written x (i % 64) 64 0 r
+pub marked-under : (ws : List ℕ) (v i x r : ℕ) → Matched (getD ws (i / 64) 0) v x → WordPut x (i % 64) 64 0 r
     → Marked (bitAt ws) v (64 * (i / 64)) (64 * (i / 64)) i r
 marked-under ws v i x r h w =
     marked-high (bitAt ws) v (64 * (i / 64)) (64 * (i / 64 + 1)) (i % 64) i x r (omega arith) (omega arith)

@@ -10,12 +10,12 @@ use native.Mathlib.Omega.{arith}
 use native.Mathlib.Decide.{ℕ-discrete}
 use lib.Dec.{eqb}
 use borrow.Author.Tests.{eqb-true, eq-eqb, ne-eqb, le-leb, lt-leb}
-use Rattle.words.specs.Bits.{ones}
+use Rattle.words.specs.Bits.{sumTo, ones}
 use Rattle.words.specs.Strip.{orElse, least, greatest, holds, rankOf, selectOf}
 use Rattle.words.specs.Working.{ofValue, atMost}
 use Rattle.words.specs.Words.{placeIn}
 use Rattle.words.proofs.BoolLaws.{bool-or, true-false, and-intro, and-first, and-second}
-use Rattle.words.proofs.Sums.{lt-or, ones-suc, ones-zero, ones-ext, ones-le, rank-one, part-ones}
+use Rattle.words.proofs.Sums.{lt-or, sum-suc, sum-zero, sum-ext, ones-le, rank-one, part-ones}
 use Rattle.words.proofs.WordLaws.{holds-yes, holds-no, holds-le, holds-zero, holds-one}
 
 -- ---- the smallest position that passes a test
@@ -98,13 +98,13 @@ greatest-ext t u (suc n) h =
 -- ---- rank and select over cells f
 
 -- p holds v and has k of v before it
-pub record Place (f : ℕ → ℕ) (n v k p : ℕ) : Type 0 where
+pub record KthAt (f : ℕ → ℕ) (n v k p : ℕ) : Type 0 where
   pub below : p < n
   pub held : f p ≡ v
   pub rank : rankOf f v p ≡ k
 
 -- two positions that hold v and have as many of v before them are one
-pub place-unique : (f : ℕ → ℕ) (n v k p q : ℕ) → Place f n v k p → Place f n v k q → p ≡ q
+pub place-unique : (f : ℕ → ℕ) (n v k p q : ℕ) → KthAt f n v k p → KthAt f n v k q → p ≡ q
 place-unique f n v k p q a b = go (lt-or p q) (lt-or q p)
   where
     go : (p < q) ⊎ (q ≤ p) → (q < p) ⊎ (p ≤ q) → p ≡ q
@@ -113,7 +113,7 @@ place-unique f n v k p q a b = go (lt-or p q) (lt-or q p)
     go (inr l) (inr m) = omega arith
 
 -- select answers that position
-pub select-at : (f : ℕ → ℕ) (n v k p : ℕ) → Place f n v k p → selectOf f n v k ≡ some p
+pub select-at : (f : ℕ → ℕ) (n v k p : ℕ) → KthAt f n v k p → selectOf f n v k ≡ some p
 select-at f n v k p h =
     least-at (λ q. eqb (f q) v && eqb (rankOf f v q) k) n p
     (record {
@@ -131,13 +131,13 @@ select-at f n v k p h =
     other q l (inr t) = t
 
 -- and no other
-pub select-place : (f : ℕ → ℕ) (n v k p : ℕ) → selectOf f n v k ≡ some p → Place f n v k p
+pub select-place : (f : ℕ → ℕ) (n v k p : ℕ) → selectOf f n v k ≡ some p → KthAt f n v k p
 select-place f n v k p e = go (selectOf f n v k) (least-is (λ q. eqb (f q) v && eqb (rankOf f v q) k) n) e
   where
-    go : (r : Option ℕ) → Searched (λ q. eqb (f q) v && eqb (rankOf f v q) k) n r → r ≡ some p → Place f n v k p
+    go : (r : Option ℕ) → Searched (λ q. eqb (f q) v && eqb (rankOf f v q) k) n r → r ≡ some p → KthAt f n v k p
     go r (hit q g) e2 =
         let s : q ≡ p = cc in
-        subst (λ (x : ℕ). Place f n v k x) s
+        subst (λ (x : ℕ). KthAt f n v k x) s
         (record {
           below = g .below;
           held = eqb-true (f q) v (and-first (eqb (f q) v) (eqb (rankOf f v q) k) (g .passes));
@@ -146,20 +146,20 @@ select-place f n v k p e = go (selectOf f n v k) (least-is (λ q. eqb (f q) v &&
     go r (miss g) e2 = let z : _≡_ {A = ℕ} 0 1 = cc in absurd (omega arith)
 
 -- where k is below the number of v, there is such a position
-pub place-exists : (f : ℕ → ℕ) (n v k : ℕ) → k < rankOf f v n → (p : ℕ) × Place f n v k p
-place-exists f zero v k h = absurd (omega (arith, ones-zero (holds f v)))
+pub place-exists : (f : ℕ → ℕ) (n v k : ℕ) → k < rankOf f v n → (p : ℕ) × KthAt f n v k p
+place-exists f zero v k h = absurd (omega (arith, sum-zero (holds f v)))
 place-exists f (suc n) v k h = go (lt-or k (rankOf f v n)) (place-exists f n v k)
   where
-    go : (k < rankOf f v n) ⊎ (rankOf f v n ≤ k) → (k < rankOf f v n → (p : ℕ) × Place f n v k p) → (p : ℕ) × Place f (suc n) v k p
+    go : (k < rankOf f v n) ⊎ (rankOf f v n ≤ k) → (k < rankOf f v n → (p : ℕ) × KthAt f n v k p) → (p : ℕ) × KthAt f (suc n) v k p
     go (inl l) ih =
         let w = ih l in
         (w .0, record { below = omega (arith, w .1 .below); held = w .1 .held; rank = w .1 .rank })
     go (inr l) ih = last (ℕ-discrete (f n) v)
       where
-        last : Dec (f n ≡ v) → (p : ℕ) × Place f (suc n) v k p
+        last : Dec (f n ≡ v) → (p : ℕ) × KthAt f (suc n) v k p
         last (yes e) =
-            (n, record { below = lt-suc-self n; held = e; rank = omega (arith, ones-suc (holds f v) n, holds-le f v n) })
-        last (no d) = absurd (omega (arith, ones-suc (holds f v) n, holds-no f v n d))
+            (n, record { below = lt-suc-self n; held = e; rank = omega (arith, sum-suc (holds f v) n, holds-le f v n) })
+        last (no d) = absurd (omega (arith, sum-suc (holds f v) n, holds-no f v n d))
 
 -- find has an answer exactly where k is below the number of v
 pub select-exists : (f : ℕ → ℕ) (n v k : ℕ) → k < rankOf f v n → (p : ℕ) × (selectOf f n v k ≡ some p)
@@ -192,16 +192,16 @@ pub select-rank : (f : ℕ → ℕ) (n v p : ℕ) → p < n → f p ≡ v → se
 select-rank f n v p l e = select-at f n v (rankOf f v p) p (record { below = l; held = e; rank = refl })
 
 -- ---- the answer as one number: the position, or the width
-pub placeIn-at : (f : ℕ → ℕ) (n v k p : ℕ) → Place f n v k p → placeIn n (selectOf f n v k) ≡ p
+pub placeIn-at : (f : ℕ → ℕ) (n v k p : ℕ) → KthAt f n v k p → placeIn n (selectOf f n v k) ≡ p
 placeIn-at f n v k p h = ap (placeIn n) (select-at f n v k p h)
 
 pub placeIn-none : (f : ℕ → ℕ) (n v k : ℕ) → rankOf f v n ≤ k → placeIn n (selectOf f n v k) ≡ n
 placeIn-none f n v k h = ap (placeIn n) (select-none f n v k h)
 
-pub placeIn-place : (f : ℕ → ℕ) (n v k : ℕ) → k < rankOf f v n → Place f n v k (placeIn n (selectOf f n v k))
+pub placeIn-place : (f : ℕ → ℕ) (n v k : ℕ) → k < rankOf f v n → KthAt f n v k (placeIn n (selectOf f n v k))
 placeIn-place f n v k h =
     let w = place-exists f n v k h in
-    subst (λ (p : ℕ). Place f n v k p) (sym (placeIn-at f n v k (w .0) (w .1))) (w .1)
+    subst (λ (p : ℕ). KthAt f n v k p) (sym (placeIn-at f n v k (w .0) (w .1))) (w .1)
 
 -- an answer is a position, or the end
 pub select-le : (f : ℕ → ℕ) (n v k : ℕ) → placeIn n (selectOf f n v k) ≤ n
@@ -213,7 +213,7 @@ select-le f n v k = go (lt-or k (rankOf f v n))
 
 -- ---- cells g that are a part of f, w of them from a on
 pub rank-ext : (f g : ℕ → ℕ) (v n : ℕ) → ((p : ℕ) → p < n → f p ≡ g p) → rankOf f v n ≡ rankOf g v n
-rank-ext f g v n h = ones-ext (holds f v) (holds g v) n (λ p l. ap (λ (x : ℕ). cond (eqb x v) 1 0) (h p l))
+rank-ext f g v n h = sum-ext (holds f v) (holds g v) n (λ p l. ap (λ (x : ℕ). cond (eqb x v) 1 0) (h p l))
 
 pub rank-part : (f g : ℕ → ℕ) (a w v m : ℕ) → ((p : ℕ) → p < w → g p ≡ f (a + p)) → m ≤ w → rankOf f v (a + m) ≡ rankOf f v a + rankOf g v m
 rank-part f g a w v m part l =
@@ -221,7 +221,7 @@ rank-part f g a w v m part l =
 
 -- the k-th v lies in that part, which has `under` of v before it
 pub place-in : (f g : ℕ → ℕ) (a w n v k under e : ℕ) → ((p : ℕ) → p < w → g p ≡ f (a + p)) → a + w ≤ n
-    → under ≡ rankOf f v a → under ≤ k → Place g w v (k - under) e → Place f n v k (a + e)
+    → under ≡ rankOf f v a → under ≤ k → KthAt g w v (k - under) e → KthAt f n v k (a + e)
 place-in f g a w n v k under e part top eu l h =
     let below : e < w = h .below in
     record {
@@ -240,14 +240,14 @@ select-beyond f n v k h = select-none f n v k (omega (arith, rank-le f v n))
 
 -- of bits, the rank of 1 is the ones
 pub rank-ones : (f : ℕ → ℕ) (n : ℕ) → ((p : ℕ) → f p ≤ 1) → rankOf f 1 n ≡ ones f n
-rank-ones f n h = ones-ext (holds f 1) f n (λ p l. holds-one f p (h p))
+rank-ones f n h = sum-ext (holds f 1) f n (λ p l. holds-one f p (h p))
 
 -- cells f and g of which the same positions hold v and w: the same answer
 pub select-ext : (f g : ℕ → ℕ) (n v w k : ℕ) → ((p : ℕ) → p < n → holds f v p ≡ holds g w p) → selectOf f n v k ≡ selectOf g n w k
 select-ext f g n v w k h =
     least-ext (λ p. eqb (f p) v && eqb (rankOf f v p) k) (λ p. eqb (g p) w && eqb (rankOf g w p) k) n (λ p l.
     ap₂ (λ (a b : Bool). a && b) (test-ext (f p) v (g p) w (h p l))
-    (ap (λ (m : ℕ). eqb m k) (ones-ext (holds f v) (holds g w) p (λ q r. h q (omega arith)))))
+    (ap (λ (m : ℕ). eqb m k) (sum-ext (holds f v) (holds g w) p (λ q r. h q (omega arith)))))
   where
     test-ext : (a b c d : ℕ) → _≡_ {A = ℕ} (cond (eqb a b) 1 0) (cond (eqb c d) 1 0) → eqb a b ≡ eqb c d
     test-ext a b c d = go (eqb a b) (eqb c d)
@@ -260,7 +260,7 @@ select-ext f g n v w k h =
 
 -- every cell holds one of the two values of a bit: the zeros and the ones before i are i
 pub rank-both : (f : ℕ → ℕ) (i : ℕ) → ((p : ℕ) → f p ≤ 1) → rankOf f 0 i + rankOf f 1 i ≡ i
-unfolding ones
+unfolding sumTo
 rank-both f zero h = refl
 rank-both f (suc i) h = omega (arith, rank-both f i h, holds-zero f i (h i), holds-one f i (h i), h i)
 
@@ -269,8 +269,8 @@ pub part-select : (f g : ℕ → ℕ) (a w n v k left r : ℕ) → ((p : ℕ) �
     → r ≡ placeIn w (selectOf g w v left) → (r < w) × (a + r ≡ placeIn n (selectOf f n v k))
 part-select f g a w n v k left r part top e l er =
     let ek : left ≡ k - rankOf f v a = omega arith in
-    let p : Place g w v left r = subst (λ (q : ℕ). Place g w v left q) (sym er) (placeIn-place g w v left l) in
-    let q : Place f n v k (a + r) = place-in f g a w n v k (rankOf f v a) r part top refl (omega arith) (subst (λ (x : ℕ). Place g w v x r) ek p) in
+    let p : KthAt g w v left r = subst (λ (q : ℕ). KthAt g w v left q) (sym er) (placeIn-place g w v left l) in
+    let q : KthAt f n v k (a + r) = place-in f g a w n v k (rankOf f v a) r part top refl (omega arith) (subst (λ (x : ℕ). KthAt g w v x r) ek p) in
     (p .below, sym (placeIn-at f n v k (a + r) q))
 
 -- ---- the number of v among n bits of which x are ones
@@ -311,14 +311,14 @@ pub record Reached (P : ℕ → ℕ) (k n c : ℕ) : Type 0 where
 
 pub reached : (P : ℕ → ℕ) (k n : ℕ) → ((i j : ℕ) → i ≤ j → P i ≤ P j) → Reached P k n (ones (atMost P k) n)
 reached P k zero up =
-    rw (ones-zero (atMost P k)) (record { within = zero-le; low = (λ j l. absurd (omega arith)); above = (λ l. absurd (omega arith)) })
+    rw (sum-zero (atMost P k)) (record { within = zero-le; low = (λ j l. absurd (omega arith)); above = (λ l. absurd (omega arith)) })
 reached P k (suc n) up = go (lt-or k (P n)) (reached P k n up)
   where
     go : (k < P n) ⊎ (P n ≤ k) → Reached P k n (ones (atMost P k) n) → Reached P k (suc n) (ones (atMost P k) (suc n))
     go (inl l) ih =
         let c : ℕ = ones (atMost P k) n in
         let t : atMost P k n ≡ 0 = simp (lt-leb (P n) k l) in
-        let e : ones (atMost P k) (suc n) ≡ c = ones-suc (atMost P k) n ∙ omega (arith, t) in
+        let e : ones (atMost P k) (suc n) ≡ c = sum-suc (atMost P k) n ∙ omega (arith, t) in
         rw e (record {
           within = omega (arith, ih .within);
           low = ih .low;
@@ -332,7 +332,7 @@ reached P k (suc n) up = go (lt-or k (P n)) (reached P k n up)
         let c : ℕ = ones (atMost P k) n in
         let t : atMost P k n ≡ 1 = simp (le-leb (P n) k l) in
         let all : c ≡ n = full c (ih .within) (ih .above) (lt-or c n) in
-        let e : ones (atMost P k) (suc n) ≡ suc n = ones-suc (atMost P k) n ∙ omega (arith, t, all) in
+        let e : ones (atMost P k) (suc n) ≡ suc n = sum-suc (atMost P k) n ∙ omega (arith, t, all) in
         rw e (record {
           within = le-refl (suc n);
           low = (λ j h. native.Mathlib.Nat.le-trans (up j n (omega arith)) l);

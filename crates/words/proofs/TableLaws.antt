@@ -1,5 +1,4 @@
--- The table of select in a byte: its numbers, computed from their rule, and the rule as one test over all bytes and ranks, which antt computes.
--- Assumes nothing.
+-- The table of select in a byte: its rule as one test over all bytes and ranks, which antt computes for the source's numbers. Assumes nothing.
 use mathlib.Core.Path.{_≡_, refl, sym, ap, _∙_}
 use mathlib.Core.List.{List}
 use mathlib.Core.Bool.{Bool, true, _&&_}
@@ -9,11 +8,11 @@ use native.Mathlib.Omega.{arith}
 use lib.Arith.{lt-of-le-ne}
 use lib.Dec.{eqb}
 use borrow.Author.Tests.{eqb-true}
-use lib.ListN.{getD, take, drop}
-use Rattle.words.specs.Bits.{ones, digits, listOf}
+use lib.ListN.{length, getD, take, drop}
+use Rattle.words.specs.Bits.{sumTo}
 use Rattle.words.specs.Strip.{least}
 use Rattle.words.specs.Words.{byteOf, selectIn}
-use Rattle.words.specs.Working.{SelectBytes}
+use Rattle.words.specs.Working.{SelectBytes, SelectTable}
 use Rattle.words.proofs.BoolLaws.{and-first, and-second}
 use Rattle.words.proofs.Sums.{part-at}
 
@@ -30,7 +29,7 @@ past l (suc n) r = lt-of-le-ne (past l n (r .0)) (λ e. r .1 (sym e))
 
 -- ---- a test over the numbers below n
 -- t holds at each of them
-all : (ℕ → Bool) → ℕ → Bool
+unfoldable all : (ℕ → Bool) → ℕ → Bool
 all t zero = true
 all t (suc n) = t zero && all (λ i. t (suc i)) n
 
@@ -42,28 +41,29 @@ all-at t (suc n) h zero l = and-first (t zero) (all (λ i. t (suc i)) n) h
 all-at t (suc n) h (suc i) l = all-at (λ i. t (suc i)) n (and-second (t zero) (all (λ i. t (suc i)) n) h) i (le-of-suc-le-suc l)
 
 -- ---- the table
--- its 256 numbers: eight digits in base 256, each a position
-unfoldable pub table : List ℕ
-unfolding digits listOf least ones
-table = listOf (λ b. digits 256 (selectIn 8 b 1) 8) 256
-
--- byte k of a number of the table is select in the byte b
-agrees : List ℕ → ℕ → ℕ → Bool
-unfolding least ones
+-- byte k of number b of xs is select in the byte b
+unfoldable agrees : List ℕ → ℕ → ℕ → Bool
+unfolding least sumTo
 agrees xs b k = eqb (byteOf (getD xs b 0) k) (selectIn 8 b 1 k)
 
--- so for all bytes and all ranks
-table-pass : all (λ b. all (agrees table b) 8) 256 ≡ true
-unfolding all agrees table
-table-pass = refl
+-- the test of a table: all bytes and all ranks
+unfoldable pub passes : List ℕ → Bool
+unfolding all agrees
+passes xs = all (λ b. all (agrees xs b) 8) 256
 
--- number b, read in the part of sixteen that it stands in
-pub select-bytes : (i b r : ℕ) → b < 256 → b / 16 ≡ i → r ≡ getD (take 16 (drop (16 * i) table)) (b % 16) 0 → SelectBytes b r
-unfolding agrees
-select-bytes i b r h e q k l =
+-- a list that passes is a right table
+pub passed : (xs : List ℕ) → length xs ≡ 256 → passes xs ≡ true → SelectTable xs
+unfolding passes agrees
+passed xs n t = record {
+  long = n;
+  right = λ b h k l. eqb-true (byteOf (getD xs b 0) k) (selectIn 8 b 1 k)
+      (all-at (agrees xs b) 8 (all-at (λ b. all (agrees xs b) 8) 256 t b h) k l);
+}
+
+-- number b of a right table, read in the part of sixteen that it stands in
+pub read-part : (i : ℕ) (xs : List ℕ) (b r : ℕ) → SelectTable xs × (b < 256) → b / 16 ≡ i
+    → r ≡ getD (take 16 (drop (16 * i) xs)) (b % 16) 0 → SelectBytes b r
+read-part i xs b r (t, h) e q k l =
     let place : 16 * i + b % 16 ≡ b = omega arith in
-    let whole : getD (take 16 (drop (16 * i) table)) (b % 16) 0 ≡ getD table b 0 =
-    part-at table (16 * i) 16 0 (b % 16) (omega arith) ∙ ap (λ (n : ℕ). getD table n 0) place in
-    ap (λ (n : ℕ). byteOf n k) (q ∙ whole)
-    ∙ eqb-true (byteOf (getD table b 0) k) (selectIn 8 b 1 k)
-    (all-at (agrees table b) 8 (all-at (λ b. all (agrees table b) 8) 256 table-pass b h) k l)
+    ap (λ (n : ℕ). byteOf n k) (q ∙ part-at xs (16 * i) 16 0 (b % 16) (omega arith) ∙ ap (λ (n : ℕ). getD xs n 0) place)
+    ∙ t .right b h k l

@@ -12,8 +12,8 @@ use lib.Bits.{bitAnd, bitOr, bitXor, differ}
 use borrow.Author.Tests.{eq-eqb, ne-eqb}
 use Rattle.words.specs.Bits.{bit, bitAt, ones}
 use Rattle.words.specs.Strip.{holds}
-use Rattle.words.specs.Working.{Written, Matched}
-use Rattle.words.proofs.Sums.{lt-or, ones-more, ones-range, part-ones, part-at}
+use Rattle.words.specs.Working.{WordPut, Matched}
+use Rattle.words.proofs.Sums.{lt-or, sum-more, sum-range, part-ones, part-at}
 use Rattle.words.proofs.BitLaws.{bit-lt, bit-le, zero-bit, bit-xor, bit-and, bit-or, bit-not, bit-high, differ-one, differ-zero, mask, mask-in, mask-below, mask-above, mask-lt, mask-one}
 
 -- ---- bits that hold a value
@@ -59,7 +59,7 @@ holds-le f v p = go (eqb (f p) v)
     go mathlib.Core.Bool.false = Prim.Native.Nat.zero-le
 
 -- ---- a word with some bits written
-pub written-set : (x n a : ℕ) → Written x a (a + n) 1 (bitOr x (mask n a))
+pub written-set : (x n a : ℕ) → WordPut x a (a + n) 1 (bitOr x (mask n a))
 written-set x n a =
     record {
       inside = (λ p l h. bit-or x (mask n a) p ∙ omega (arith, mask-in n a p l h, bit-lt x p));
@@ -67,7 +67,7 @@ written-set x n a =
       over = (λ p h. bit-or x (mask n a) p ∙ omega (arith, mask-above n a p h));
     }
 
-pub written-clear : (x n a : ℕ) → x < 2 ^ 64 → n + a ≤ 64 → Written x a (a + n) 0 (bitAnd x ((2 ^ 64 - 1) - mask n a))
+pub written-clear : (x n a : ℕ) → x < 2 ^ 64 → n + a ≤ 64 → WordPut x a (a + n) 0 (bitAnd x ((2 ^ 64 - 1) - mask n a))
 written-clear x n a hx h =
     let lm : mask n a < 2 ^ 64 = mask-lt n a 64 h in
     record {
@@ -81,7 +81,7 @@ written-clear x n a hx h =
         bit-and x ((2 ^ 64 - 1) - mask n a) p ∙ omega (arith, bit-not 64 (mask n a) p (mask-lt n a 64 h) l, mask-above n a p u, bit-lt x p)
     go p u (inr l) = bit-and x ((2 ^ 64 - 1) - mask n a) p ∙ omega (arith, bit-high x 64 p hx l)
 
-pub written-flip : (x i : ℕ) → Written x i (i + 1) (1 - bit x i) (bitXor x (2 ^ i))
+pub written-flip : (x i : ℕ) → WordPut x i (i + 1) (1 - bit x i) (bitXor x (2 ^ i))
 written-flip x i =
     let m : 2 ^ i ≡ mask 1 i = sym (mask-one i) in
     let flipped : (p b : ℕ) → bit (mask 1 i) p ≡ b → bit (bitXor x (2 ^ i)) p ≡ differ (bit x p) b =
@@ -95,15 +95,15 @@ written-flip x i =
     }
 
 -- the ones move by the range: those of x between a and e go, and e - a times b come
-pub written-ones : (x a e b r n : ℕ) → Written x a e b r → a ≤ e → e ≤ n
+pub written-ones : (x a e b r n : ℕ) → WordPut x a e b r → a ≤ e → e ≤ n
     → ones (bit r) n + ones (bit x) e ≡ ones (bit x) n + (ones (bit x) a + (e - a) * b)
 written-ones x a e b r n w la le =
-    ones-range (bit r) (bit x) a e n b la le (w .under) (w .inside) (λ p l u. w .over p l)
+    sum-range (bit r) (bit x) a e n b la le (w .under) (w .inside) (λ p l u. w .over p l)
 
 -- one bit: the ones move by the new bit and the old
-pub written-one : (x i b r n : ℕ) → Written x i (i + 1) b r → i < n → ones (bit r) n + bit x i ≡ ones (bit x) n + b
+pub written-one : (x i b r n : ℕ) → WordPut x i (i + 1) b r → i < n → ones (bit r) n + bit x i ≡ ones (bit x) n + b
 written-one x i b r n w l =
-    omega (arith, written-ones x i (i + 1) b r n w (omega arith) (omega arith), ones-more (bit x) i, ap (λ (k : ℕ). k * b) (only i), one-mul b)
+    omega (arith, written-ones x i (i + 1) b r n w (omega arith) (omega arith), sum-more (bit x) i, ap (λ (k : ℕ). k * b) (only i), one-mul b)
   where
     only : (i : ℕ) → i + 1 - i ≡ 1
     only i = omega arith

@@ -2,6 +2,7 @@
 use Prim.Native.Nat.{ℕ, _/_, _%_}
 use mathlib.Core.Bool.{Bool, true, not, _&&_}
 use mathlib.Core.List.{List, [], _∷_}
+use lib.ListN.{length}
 use lib.Dec.{leb, eqb}
 use Rattle.words.specs.declared.handle.Handle.{Handle}
 use Rattle.words.specs.Refusals.{Line, _⇒_}
@@ -21,6 +22,10 @@ allowed c = eqb (c % blockBits) 0 && (leb blockBits c && leb c mostBits)
 -- a handle has capacity and length
 abbrev pub handle : ℕ → ℕ → Handle
 handle c n = record { capacity = c; length = n }
+
+-- the handle of a strip s of capacity c
+abbrev pub handleOf : ℕ → List ℕ → Handle
+handleOf c s = handle c (length s)
 
 -- a capacity that is allowed, and a length not above it
 abbrev pub good : Handle → Bool

@@ -2,7 +2,7 @@
 use mathlib.Core.Path.{_≡_}
 use mathlib.Core.Option.{Option, some, none}
 use Prim.Native.Nat.{ℕ, _+_, _*_, _/_, _%_, _^_, _<_}
-use Rattle.words.specs.Bits.{bit, ones}
+use Rattle.words.specs.Bits.{bit, sumTo, ones}
 use Rattle.words.specs.Strip.{selectOf}
 
 -- byte j of a word
@@ -15,7 +15,7 @@ onesInByte x j = ones (bit (byteOf x j)) 8
 
 -- byte j of r is the ones in bytes 0 to j of x
 abbrev pub Prefixes : ℕ → ℕ → Type 0
-Prefixes x r = (j : ℕ) → j < 8 → byteOf r j ≡ ones (onesInByte x) (j + 1)
+Prefixes x r = (j : ℕ) → j < 8 → byteOf r j ≡ sumTo (onesInByte x) (j + 1)
 
 -- a position, or the width n where there is none
 abbrev pub placeIn : ℕ → Option ℕ → ℕ

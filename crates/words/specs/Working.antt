@@ -5,7 +5,7 @@ use mathlib.Core.Bool.{cond}
 use mathlib.Core.List.{List}
 use Prim.Native.Nat.{ℕ, suc, _-_, _≤_, _<_}
 use lib.Dec.{leb, eqb}
-use lib.ListN.{length}
+use lib.ListN.{length, getD}
 use Rattle.words.specs.Bits.{bit, bitAt}
 use Rattle.words.specs.Strip.{holds}
 use Rattle.words.specs.Words.{byteOf, selectIn}
@@ -15,7 +15,7 @@ abbrev pub ofValue : ℕ → ℕ → ℕ → ℕ
 ofValue v n x = cond (eqb v 1) x (n - x)
 
 -- r is the word x with the bits from a to e - 1 made b
-pub record Written (x a e b r : ℕ) : Type 0 where
+pub record WordPut (x a e b r : ℕ) : Type 0 where
   pub inside : (p : ℕ) → a ≤ p → p < e → bit r p ≡ b
   pub under : (p : ℕ) → p < a → bit r p ≡ bit x p
   pub over : (p : ℕ) → e ≤ p → bit r p ≡ bit x p
@@ -38,6 +38,11 @@ atMost P k j = cond (leb (P j) k) 1 0
 -- byte k of r is select of 1 in the byte b, for each k below 8
 abbrev pub SelectBytes : ℕ → ℕ → Type 0
 SelectBytes b r = (k : ℕ) → k < 8 → byteOf r k ≡ selectIn 8 b 1 k
+
+-- a right table: 256 numbers, of which number b has select in the byte b
+pub record SelectTable (xs : List ℕ) : Type 0 where
+  pub long : length xs ≡ 256
+  pub right : (b : ℕ) → b < 256 → SelectBytes b (getD xs b 0)
 
 -- r is the smallest position at or past i, below n, holding v, or n where there is none
 pub record FirstFrom (f : ℕ → ℕ) (n v i r : ℕ) : Type 0 where

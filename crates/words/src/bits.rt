@@ -2,7 +2,7 @@
 ghost use mathlib.Core.Path.{_≡_};
 ghost use Prim.Native.Nat.{_+_, _-_, _^_, _<_, _≤_};
 ghost use Rattle.words.specs.Bits.{bit, ones};
-ghost use Rattle.words.specs.Working.{ofValue, Written, Matched};
+ghost use Rattle.words.specs.Working.{ofValue, WordPut, Matched};
 
 // Bit i of a word.
 pub fn bit_of(x: u64, i: usize) -> u64
@@ -30,18 +30,10 @@ pub fn ones_of(x: u64) -> usize
     u64::count_ones(x) as usize
 }
 
-// The ones among the low i bits of a word.
-pub fn ones_below(x: u64, i: usize) -> usize
-    requires { ⌜ i ≤ 64 ⌝ }
-    ensures { λ r. ⌜ r ≡ ones (bit x) i ⌝ }
-{
-    ones_of(x & low_mask(i))
-}
-
 // The word with bit i flipped.
 pub fn flip_bit(x: u64, i: usize) -> u64
     requires { ⌜ i < 64 ⌝ }
-    ensures { λ r. ⌜ Written x i (i + 1) (1 - bit x i) r ⌝ }
+    ensures { λ r. ⌜ WordPut x i (i + 1) (1 - bit x i) r ⌝ }
 {
     x ^ (1u64 << i)
 }
@@ -49,7 +41,7 @@ pub fn flip_bit(x: u64, i: usize) -> u64
 // The word with the bits from a to e - 1 set for v = 1, cleared for v = 0.
 pub fn put_range(x: u64, a: usize, e: usize, v: u64) -> u64
     requires { ⌜ (a ≤ e) × (e ≤ 64) × (v ≤ 1) ⌝ }
-    ensures { λ r. ⌜ Written x a e v r ⌝ }
+    ensures { λ r. ⌜ WordPut x a e v r ⌝ }
 {
     let mask = low_mask(e) - low_mask(a);
     if v == 1 { x | mask } else { x & !mask }
@@ -58,7 +50,7 @@ pub fn put_range(x: u64, a: usize, e: usize, v: u64) -> u64
 // The word with bit i set for v = 1, cleared for v = 0.
 pub fn put_bit(x: u64, i: usize, v: u64) -> u64
     requires { ⌜ (i < 64) × (v ≤ 1) ⌝ }
-    ensures { λ r. ⌜ Written x i (i + 1) v r ⌝ }
+    ensures { λ r. ⌜ WordPut x i (i + 1) v r ⌝ }
 {
     let mask = 1u64 << i;
     if v == 1 { x | mask } else { x & !mask }

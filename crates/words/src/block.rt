@@ -33,7 +33,7 @@ fn word_mask(m: usize, j: usize) -> u64
     if j == q { low_mask(m % 64) } else { 0 }
 }
 
-// The ones among the first m bits of a block: all eight words, each masked, so that no branch depends on m.
+// The ones among the first m bits of a block: of all eight words, each masked, so that the loop takes eight turns whatever m is.
 pub fn block_rank(block: &[u64], m: usize) -> usize
     requires { ⌜ (length (now block) ≡ 8) × (m ≤ 512) ⌝ }
     ensures { λ r. ⌜ r ≡ ones (bitAt (now (block .entry))) m ⌝ }

@@ -3,6 +3,7 @@ ghost use mathlib.Core.Path.{_≡_};
 ghost use Prim.Native.Nat.{_+_, _-_, _*_, _<_, _≤_};
 ghost use lib.ListN.{length, replicate};
 ghost use Rattle.words.specs.Bits.{bitAt};
+ghost use Rattle.words.specs.Handles.{mostBits, wordsOf};
 ghost use Rattle.words.specs.Working.{RangePut};
 use super::bits::bit_of;
 use super::bits::flip_bit;
@@ -20,7 +21,8 @@ pub fn put_position(words: &mut [u64], p: usize, v: u64)
 // Flips position p, and answers the new bit.
 pub fn flip_position(words: &mut [u64], p: usize) -> u64
     requires { ⌜ p < 64 * length (now words) ⌝ }
-    ensures { λ r. ⌜ (r ≡ 1 - bitAt (now (words .entry)) p) × RangePut (now (words .entry)) p (p + 1) (1 - bitAt (now (words .entry)) p) (now (words .exit)) ⌝ }
+    ensures { λ r. ⌜ r ≡ 1 - bitAt (now (words .entry)) p ⌝ }
+    ensures { λ _. ⌜ RangePut (now (words .entry)) p (p + 1) (1 - bitAt (now (words .entry)) p) (now (words .exit)) ⌝ }
 {
     let x = flip_bit(words[p / 64], p % 64);
     words[p / 64] = x;
@@ -50,7 +52,7 @@ fn fill_words(words: &mut [u64], from: usize, to: usize, v: u64)
 
 // Makes the positions from a to e - 1 of the words v.
 pub fn put_positions(words: &mut [u64], a: usize, e: usize, v: u64)
-    requires { ⌜ (a ≤ e) × (e ≤ 64 * length (now words)) × (v ≤ 1) × (length (now words) ≤ 2097152) ⌝ }
+    requires { ⌜ (a ≤ e) × (e ≤ 64 * length (now words)) × (v ≤ 1) × (length (now words) ≤ wordsOf mostBits) ⌝ }
     ensures { λ _. ⌜ RangePut (now (words .entry)) a e v (now (words .exit)) ⌝ }
 {
     if a == e {

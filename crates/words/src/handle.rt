@@ -1,7 +1,7 @@
 // The handle of a strip, and the checks that all strip calls share.
 ghost use mathlib.Core.Path.{_≡_};
 ghost use Rattle.words.specs.Refusals.{judge, verdictOf};
-ghost use Rattle.words.specs.Handles.{handle as handleOf, stripLines, allowed as allowedOf};
+ghost use Rattle.words.specs.Handles.{handle as handleWith, stripLines, allowed as allowedOf};
 use super::refusal::Refusal;
 use super::refusal::Verdict;
 
@@ -18,7 +18,7 @@ pub struct Handle {
 
 impl Handle {
     pub fn new(capacity: usize, length: usize) -> Self
-        ensures { λ h. ⌜ h ≡ handleOf capacity length ⌝ }
+        ensures { λ h. ⌜ h ≡ handleWith capacity length ⌝ }
     {
         Handle { capacity, length }
     }
@@ -37,7 +37,10 @@ pub fn allowed(capacity: usize) -> bool
     capacity <= MOST_BITS
 }
 
-// The checks 1, 2 and 3, where as many words are lent. `counted` says that the counters are right in number, or not taken.
+// `counted` of a call that takes no counters.
+pub const UNTAKEN: bool = true;
+
+// The checks 1, 2 and 3. `words` is the number of words lent; `counted` says that the counters are right in number, or not taken.
 pub fn check_strip(h: Handle, words: usize, counted: bool) -> Verdict
     ensures { λ r. ⌜ verdictOf r ≡ judge (stripLines h words counted) ⌝ }
 {

@@ -3,6 +3,7 @@ ghost use mathlib.Core.Path.{_≡_};
 ghost use Prim.Native.Nat.{_+_, _*_, _<_, _≤_};
 ghost use lib.ListN.{length};
 ghost use Rattle.words.specs.Bits.{bit, bitAt};
+ghost use Rattle.words.specs.Handles.{mostBits, wordsOf};
 ghost use Rattle.words.specs.Working.{FirstFrom, LastBefore};
 use super::bits::matches;
 use super::bits::put_range;
@@ -25,7 +26,7 @@ fn past_highest_one(x: u64) -> usize
 
 // The smallest position in the words from word `from` to word `to` - 1 that holds v, or the end of these words.
 fn first_in_words(words: &[u64], from: usize, to: usize, v: u64) -> usize
-    requires { ⌜ (from ≤ to) × (to ≤ length (now words)) × (to ≤ 2097152) × (v ≤ 1) ⌝ }
+    requires { ⌜ (from ≤ to) × (to ≤ length (now words)) × (to ≤ wordsOf mostBits) × (v ≤ 1) ⌝ }
     ensures { λ r. ⌜ FirstFrom (bitAt (now (words .entry))) (64 * to) v (64 * from) r ⌝ }
 {
     let mut j = from;
@@ -41,7 +42,7 @@ fn first_in_words(words: &[u64], from: usize, to: usize, v: u64) -> usize
 
 // One past the largest position in the words below word `to` that holds v, or 0.
 fn last_in_words(words: &[u64], to: usize, v: u64) -> usize
-    requires { ⌜ (to ≤ length (now words)) × (to ≤ 2097152) × (v ≤ 1) ⌝ }
+    requires { ⌜ (to ≤ length (now words)) × (to ≤ wordsOf mostBits) × (v ≤ 1) ⌝ }
     ensures { λ r. ⌜ LastBefore (bitAt (now (words .entry))) v (64 * to) r ⌝ }
 {
     let mut j = to;
@@ -64,7 +65,7 @@ fn smaller(a: usize, b: usize) -> usize
 
 // The smallest position at or past i, below n, that holds v, or n.
 pub fn first_from(words: &[u64], n: usize, v: u64, i: usize) -> usize
-    requires { ⌜ (i ≤ n) × (n ≤ 64 * length (now words)) × (n ≤ 134217728) × (v ≤ 1) ⌝ }
+    requires { ⌜ (i ≤ n) × (n ≤ 64 * length (now words)) × (n ≤ mostBits) × (v ≤ 1) ⌝ }
     ensures { λ r. ⌜ FirstFrom (bitAt (now (words .entry))) n v i r ⌝ }
 {
     if i == n {
@@ -80,7 +81,7 @@ pub fn first_from(words: &[u64], n: usize, v: u64, i: usize) -> usize
 
 // One past the largest position below i that holds v, or 0.
 pub fn last_before(words: &[u64], v: u64, i: usize) -> usize
-    requires { ⌜ (i ≤ 64 * length (now words)) × (i ≤ 134217728) × (v ≤ 1) ⌝ }
+    requires { ⌜ (i ≤ 64 * length (now words)) × (i ≤ mostBits) × (v ≤ 1) ⌝ }
     ensures { λ r. ⌜ LastBefore (bitAt (now (words .entry))) v i r ⌝ }
 {
     let j = i / 64;

@@ -4,6 +4,7 @@ ghost use Rattle.words.specs.Refusals.{judge, verdictOf, toldOf};
 ghost use Rattle.words.specs.Calls.{belowTable, valueTable, getTold, successorTold, predecessorTold};
 use super::bits::bit_of;
 use super::handle::Handle;
+use super::handle::UNTAKEN;
 use super::handle::check_strip;
 use super::refusal::Answer;
 use super::refusal::Refusal;
@@ -38,7 +39,7 @@ pub fn check_value(h: Handle, words: usize, counted: bool, v: u64, i: usize) -> 
         return Verdict::Refuse(Refusal::BadValue);
     }
     if length < i {
-        return Verdict::Refuse(Refusal::Position); // above the length
+        return Verdict::Refuse(Refusal::Position);
     }
     Verdict::Pass
 }
@@ -47,7 +48,7 @@ pub fn check_value(h: Handle, words: usize, counted: bool, v: u64, i: usize) -> 
 pub fn get(h: Handle, words: &[u64], i: usize) -> Answer
     ensures { λ r. ⌜ toldOf r ≡ getTold h (now (words .entry)) i ⌝ }
 {
-    match check_below(h, words.len(), true, i) {
+    match check_below(h, words.len(), UNTAKEN, i) {
         Verdict::Refuse(r) => Answer::Refused(r),
         Verdict::Pass => Answer::Value(bit_of(words[i / 64], i % 64)),
     }
@@ -57,7 +58,7 @@ pub fn get(h: Handle, words: &[u64], i: usize) -> Answer
 pub fn successor(h: Handle, words: &[u64], v: u64, i: usize) -> Answer
     ensures { λ r. ⌜ toldOf r ≡ successorTold h (now (words .entry)) v i ⌝ }
 {
-    match check_value(h, words.len(), true, v, i) {
+    match check_value(h, words.len(), UNTAKEN, v, i) {
         Verdict::Refuse(r) => Answer::Refused(r),
         Verdict::Pass => {
             let n = h.length;
@@ -75,7 +76,7 @@ pub fn successor(h: Handle, words: &[u64], v: u64, i: usize) -> Answer
 pub fn predecessor(h: Handle, words: &[u64], v: u64, i: usize) -> Answer
     ensures { λ r. ⌜ toldOf r ≡ predecessorTold h (now (words .entry)) v i ⌝ }
 {
-    match check_value(h, words.len(), true, v, i) {
+    match check_value(h, words.len(), UNTAKEN, v, i) {
         Verdict::Refuse(r) => Answer::Refused(r),
         Verdict::Pass => {
             let p = last_before(words, v, i);

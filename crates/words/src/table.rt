@@ -4,7 +4,7 @@ ghost use mathlib.Core.Path.{_≡_};
 ghost use Prim.Native.Nat.{_<_};
 ghost use lib.ListN.{length, getD};
 ghost use Rattle.words.specs.Words.{selectIn};
-ghost use Rattle.words.specs.Working.{SelectBytes};
+ghost use Rattle.words.specs.Working.{SelectBytes, SelectTable};
 
 const SELECT: [u64; 256] = [
     0x0808_0808_0808_0808,
@@ -262,11 +262,11 @@ const SELECT: [u64; 256] = [
     0x0808_0706_0504_0302,
     0x0807_0605_0403_0200,
     0x0807_0605_0403_0201,
-    0x0706_0504_0302_0100, // byte 255
+    0x0706_0504_0302_0100,
 ];
 
-// Number l of sixteen. Literal indices let the compiler keep the numbers in read-only memory.
-fn entry(t: &[u64], l: u64) -> u64
+// Number l of a part of sixteen. Literal indices let the compiler keep the numbers of a constant in read-only memory.
+fn number_in_part(t: &[u64], l: u64) -> u64
     requires { ⌜ (length (now t) ≡ 16) × (l < 16) ⌝ }
     ensures { λ r. ⌜ r ≡ getD (now (t .entry)) l 0 ⌝ }
 {
@@ -290,30 +290,30 @@ fn entry(t: &[u64], l: u64) -> u64
     }
 }
 
-// The eight entries of the byte b.
-fn entries(b: u64) -> u64
-    requires { ⌜ b < 256 ⌝ }
+// The eight entries of the byte b: number b of a right table, read in the part of sixteen that it stands in.
+fn entries(t: &[u64], b: u64) -> u64
+    requires { ⌜ SelectTable (now t) × (b < 256) ⌝ }
     ensures { λ r. ⌜ SelectBytes b r ⌝ }
 {
     let high = b / 16;
     let low = b % 16;
     match high {
-        0 => entry(&SELECT[0..16], low),
-        1 => entry(&SELECT[16..32], low),
-        2 => entry(&SELECT[32..48], low),
-        3 => entry(&SELECT[48..64], low),
-        4 => entry(&SELECT[64..80], low),
-        5 => entry(&SELECT[80..96], low),
-        6 => entry(&SELECT[96..112], low),
-        7 => entry(&SELECT[112..128], low),
-        8 => entry(&SELECT[128..144], low),
-        9 => entry(&SELECT[144..160], low),
-        10 => entry(&SELECT[160..176], low),
-        11 => entry(&SELECT[176..192], low),
-        12 => entry(&SELECT[192..208], low),
-        13 => entry(&SELECT[208..224], low),
-        14 => entry(&SELECT[224..240], low),
-        _ => entry(&SELECT[240..256], low),
+        0 => number_in_part(&t[0..16], low),
+        1 => number_in_part(&t[16..32], low),
+        2 => number_in_part(&t[32..48], low),
+        3 => number_in_part(&t[48..64], low),
+        4 => number_in_part(&t[64..80], low),
+        5 => number_in_part(&t[80..96], low),
+        6 => number_in_part(&t[96..112], low),
+        7 => number_in_part(&t[112..128], low),
+        8 => number_in_part(&t[128..144], low),
+        9 => number_in_part(&t[144..160], low),
+        10 => number_in_part(&t[160..176], low),
+        11 => number_in_part(&t[176..192], low),
+        12 => number_in_part(&t[192..208], low),
+        13 => number_in_part(&t[208..224], low),
+        14 => number_in_part(&t[224..240], low),
+        _ => number_in_part(&t[240..256], low),
     }
 }
 
@@ -322,5 +322,5 @@ pub fn select_in_byte(b: u64, k: usize) -> usize
     requires { ⌜ (b < 256) × (k < 8) ⌝ }
     ensures { λ r. ⌜ r ≡ selectIn 8 b 1 k ⌝ }
 {
-    ((entries(b) >> (8 * k)) % 256) as usize
+    ((entries(&SELECT, b) >> (8 * k)) % 256) as usize
 }

@@ -5,7 +5,7 @@ use Prim.Native.Nat.{ℕ, _+_, _-_, _%_, _^_, _≤_, _<_}
 use native.Mathlib.Omega.{arith}
 use borrow.Author.Needs.{needs}
 use lib.ListN.{length, getD, length-set}
-use Rattle.words.proofs.Sums.{ones-zero, set-more}
+use Rattle.words.proofs.Sums.{sum-zero, stored-more}
 use Rattle.counters.proofs.BuildLaws.{sums, sums-more}
 use Rattle.counters.proofs.build.fill_group.Statement.{statement}
 use Rattle.counters.proofs.build.fill_group.Tie as tie
@@ -19,7 +19,7 @@ abbrev μ-loop : tie.MeasureT-loop
 loop-holds : tie.Need-loop-holds Inv-loop μ-loop
 loop-holds c =
     let s = c .before .before in
-    (s .pre .0, omega arith, sym (ap (λ (n : ℕ). n % 2 ^ 32) (ones-zero (λ m. getD (s .args .children .now) m 0))), λ d l. absurd (omega arith))
+    (s .pre .0, omega arith, sym (ap (λ (n : ℕ). n % 2 ^ 32) (sum-zero (λ m. getD (s .args .children .now) m 0))), λ d l. absurd (omega arith))
 
 mul-wrapping-add-u32 : tie.Need-mul-wrapping-add-u32 Inv-loop μ-loop
 mul-wrapping-add-u32 c = omega arith
@@ -48,7 +48,7 @@ loop-again c =
     let ts = c .before .before .before .before .before .before .args .children .now in
     let e : c .wrapping-add-u32 .result ≡ sums ts (l .i + 1) % 2 ^ 32 =
     c .wrapping-add-u32 .ensures ∙ ap (λ (n : ℕ). (n + getD ts (l .i) 0) % 2 ^ 32) (l .inv .2) ∙ sums-more ts (l .i) in
-    (simp length-set (l .inv .0), omega arith, e, set-more (λ d. sums ts (d + 1) % 2 ^ 32) (l .keys) (l .i) (c .wrapping-add-u32 .result) (omega arith) (l .inv .3) e)
+    (simp length-set (l .inv .0), omega arith, e, stored-more (λ d. sums ts (d + 1) % 2 ^ 32) (l .keys) (l .i) (c .wrapping-add-u32 .result) (omega arith) (l .inv .3) e)
 
 same-length : tie.Need-same-length Inv-loop μ-loop
 same-length c = omega arith

@@ -1,16 +1,18 @@
 -- `counters::change::create` meets its contract. Assumes nothing.
-use mathlib.Core.Path.{_≡_, ap, ap₂, _∙_}
-use mathlib.Core.List.{List}
+use mathlib.Core.Path.{_≡_, sym, ap, ap₂, _∙_}
+use mathlib.Core.List.{List, []}
 use Prim.Native.Nat.{ℕ}
 use borrow.Author.Needs.{needs}
-use lib.ListN.{length, length-replicate}
+use lib.ListN.{length, replicate, length-replicate}
 use Rattle.words.specs.declared.handle.Handle.{Handle}
 use Rattle.words.specs.Refusals.{judge, verdictOf}
 use Rattle.words.specs.Handles.{handle}
 use Rattle.words.proofs.CheckLaws.{judged-pass, unless-refused, unless-passed}
 use Rattle.counters.specs.Tree.{blocksOf, counterCount}
+use Rattle.counters.specs.Record.{packedWords, builtCounters}
 use Rattle.counters.specs.Promises.{created, uncreated, outcome}
 use Rattle.counters.specs.Calls.{checks}
+use Rattle.counters.proofs.AfreshLaws.{words-zero, counters-zero}
 use Rattle.counters.proofs.PromiseLaws.{sizes}
 use Rattle.counters.proofs.change.create.Statement.{statement}
 use Rattle.counters.proofs.change.create.Tie as tie
@@ -66,8 +68,13 @@ returns-2 c =
     let z = sizes (handle (a .capacity) 0) (a .words .now) (a .counters .now) (judged-pass t (k .check-record .result) (judged k) (e .enum-told .given .1)) in
     let count : length (cs .last .0) ≡ counterCount (blocksOf (a .capacity)) =
     ap length (cs .ensures) ∙ length-replicate (length (a .counters .now)) 0 ∙ z .counters in
+    let words-are : replicate (length (a .words .now)) 0 ≡ packedWords (a .capacity) [] =
+    ap (λ (n : ℕ). replicate n 0) (z .words) ∙ sym (words-zero (a .capacity)) in
+    let counters-are : replicate (length (a .counters .now)) 0 ≡ builtCounters (a .capacity) [] =
+    ap (λ (n : ℕ). replicate n 0) (z .counters) ∙ sym (counters-zero (a .capacity)) in
     ap₂ (λ (g : Handle) (n : ℕ). outcome (created g n) (ws .last .0) (cs .last .0)) (k .before .new .ensures) count
-    ∙ ap₂ (λ (x y : List ℕ). outcome (created (handle (a .capacity) 0) (counterCount (blocksOf (a .capacity)))) x y) (ws .ensures) (cs .ensures)
+    ∙ ap₂ (λ (x y : List ℕ). outcome (created (handle (a .capacity) 0) (counterCount (blocksOf (a .capacity)))) x y) (ws .ensures ∙ words-are)
+    (cs .ensures ∙ counters-are)
     ∙ unless-passed t (k .check-record .result) (λ n. outcome (uncreated n) (a .words .now) (a .counters .now)) _ (judged k) (e .enum-told .given .1)
 
 pub create-spec : {M : Type 1} → statement M

@@ -1,7 +1,6 @@
 -- `counters::change::fill` meets its contract. Assumes nothing.
 use mathlib.Core.Path.{_≡_, ap, _∙_}
 use mathlib.Core.List.{[], _∷_}
-use mathlib.Core.Option.{none}
 use Prim.Native.Nat.{_*_, _/_, _≤_}
 use native.Mathlib.Omega.{arith}
 use borrow.Author.Needs.{needs}
@@ -9,12 +8,12 @@ use lib.Dec.{ltb}
 use lib.ListN.{length}
 use borrow.Author.Tests.{ltb-false}
 use Rattle.words.specs.Bits.{bitAt, ones}
-use Rattle.words.specs.Refusals.{_⇒_, judge}
+use Rattle.words.specs.Refusals.{_⇒_}
 use Rattle.words.specs.Calls.{valueLine, withinLine}
-use Rattle.words.proofs.CheckLaws.{judged-pass, Passes, unless-refused, unless-passed}
+use Rattle.words.proofs.CheckLaws.{unless-refused, unless-passed}
 use Rattle.counters.specs.Promises.{stays}
 use Rattle.counters.specs.Calls.{fillTable}
-use Rattle.counters.proofs.PromiseLaws.{Sizes, sizes-of, lines-of, fill-done}
+use Rattle.counters.proofs.PromiseLaws.{tree-over, PassedRecord, record-passed, fill-done}
 use Rattle.counters.proofs.change.fill.Statement.{statement}
 use Rattle.counters.proofs.change.fill.Tie as tie
 
@@ -27,56 +26,41 @@ enum-known-r c = search needs
 enum-told : tie.Need-enum-told
 enum-told c = search needs
 
--- the table passes
-passed : (c : tie.After-enum-told)
-    → judge (fillTable (c .before .before .before .before .before .args .h) (length (c .before .before .before .before .before .args .words .now))
-    (length (c .before .before .before .before .before .args .counters .now)) (c .before .before .before .before .before .args .a) (c .before .before .before .before .before .args .b) (c .before .before .before .before .before .args .v)) ≡ none
-passed c =
-    let a = c .before .before .before .before .before .args in
-    judged-pass (fillTable (a .h) (length (a .words .now)) (length (a .counters .now)) (a .a) (a .b) (a .v)) (c .before .before .check-fill .result)
-    (c .before .before .check-fill .ensures) (c .enum-told .given .1)
-
 -- what the checks leave
-known : (c : tie.After-enum-told)
-    → Sizes (c .before .before .before .before .before .args .h) (c .before .before .before .before .before .args .words .now)
-    (c .before .before .before .before .before .args .counters .now)
-known c =
+pass : (c : tie.After-enum-told)
+    → let a = c .before .before .before .before .before .args in
+    PassedRecord (a .h) (a .words .now) (a .counters .now) (valueLine (a .v) ∷ (ltb (a .b) (a .a) ⇒ 5) ∷ withinLine (a .h .length) (a .b) ∷ [])
+pass c =
     let a = c .before .before .before .before .before .args in
-    sizes-of (a .h) (a .words .now) (a .counters .now) (valueLine (a .v) ∷ (ltb (a .b) (a .a) ⇒ 5) ∷ withinLine (a .h .length) (a .b) ∷ []) (passed c)
-
--- and its own lines
-own : (c : tie.After-enum-told) → Passes (valueLine (c .before .before .before .before .before .args .v) ∷ (ltb (c .before .before .before .before .before .args .b) (c .before .before .before .before .before .args .a) ⇒ 5) ∷ withinLine (c .before .before .before .before .before .args .h .length) (c .before .before .before .before .before .args .b) ∷ [])
-own c =
-    let a = c .before .before .before .before .before .args in
-    lines-of (a .h) (a .words .now) (a .counters .now) (valueLine (a .v) ∷ (ltb (a .b) (a .a) ⇒ 5) ∷ withinLine (a .h .length) (a .b) ∷ []) (passed c)
+    record-passed (a .h) (a .words .now) (a .counters .now) _ (c .before .before .check-fill .result) (c .before .before .check-fill .ensures) (c .enum-told .given .1)
 
 -- v is 0 or 1, and a ≤ b ≤ length
 fine : (c : tie.After-enum-told) → c .before .before .before .before .before .args .v ≤ 1
-fine c = ltb-false 1 (c .before .before .before .before .before .args .v) (own c .0)
+fine c = ltb-false 1 (c .before .before .before .before .before .args .v) (pass c .own .0)
 
 span : (c : tie.After-enum-told) → c .before .before .before .before .before .args .a ≤ c .before .before .before .before .before .args .b
-span c = ltb-false (c .before .before .before .before .before .args .b) (c .before .before .before .before .before .args .a) (own c .1 .0)
+span c = ltb-false (c .before .before .before .before .before .args .b) (c .before .before .before .before .before .args .a) (pass c .own .1 .0)
 
 within : (c : tie.After-enum-told) → c .before .before .before .before .before .args .b ≤ c .before .before .before .before .before .args .h .length
-within c = ltb-false (c .before .before .before .before .before .args .h .length) (c .before .before .before .before .before .args .b) (own c .1 .1 .0)
+within c = ltb-false (c .before .before .before .before .before .args .h .length) (c .before .before .before .before .before .args .b) (pass c .own .1 .1 .0)
 
 put-positions-requires : tie.Need-put-positions-requires
 put-positions-requires c κs =
-    let z = known (c .before) in
+    let z = pass (c .before) .known in
     (span (c .before), omega (arith, within (c .before), z .words, z .step, z .long), fine (c .before), omega (arith, z .words, z .most))
 
 put-positions-requires-2 : tie.Need-put-positions-requires-2
 put-positions-requires-2 c κs =
-    let z = known (c .before .before .before .before .before) in
+    let z = pass (c .before .before .before .before .before) .known in
     let put = c .before .before .before .put-positions .ensures in
     (z .long, omega (arith, put .long, z .words, z .step), omega arith, omega (arith, put .long, z .words, z .most))
 
 build-counters-requires : tie.Need-build-counters-requires
 build-counters-requires c κs =
-    let z = known (c .before .before .before .before .before .before .before .before .before .before) in
+    let z = pass (c .before .before .before .before .before .before .before .before .before .before) .known in
     let put = c .before .before .before .before .before .before .before .before .put-positions .ensures in
     let wipe = c .before .before .before .before .put-positions2 .ensures in
-    (omega (arith, put .long, wipe .long, z .words, z .step), z .counters, omega (arith, z .least), omega (arith, z .most))
+    (omega (arith, put .long, wipe .long, z .words, z .step), tree-over z)
 
 returns : tie.Need-returns
 returns c =
@@ -97,7 +81,7 @@ returns-2 c =
     let put = c .before .before .before .before .before .before .before .before .before .before .before .put-positions in
     let wipe = c .before .before .before .before .before .before .before .put-positions2 in
     let built = c .before .before .build-counters in
-    let z = known e in
+    let z = pass e .known in
     let whole : 512 * (a .h .capacity / 512) ≡ a .h .capacity = omega (arith, z .step) in
     fill-done (a .h) (a .words .now) (put .last .0) (wipe .last .0) (a .counters .now) (built .last .1 .0) (a .a) (a .b) (a .v) (built .result) z
     (put .ensures) (wipe .ensures) (λ k. c .before .before .before .before .before .slice-known4 .given k .fits) (built .kept .1 .0)

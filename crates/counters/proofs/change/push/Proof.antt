@@ -1,7 +1,6 @@
 -- `counters::change::push` meets its contract. Assumes nothing.
 use mathlib.Core.Path.{_≡_, sym, subst}
 use mathlib.Core.List.{[], _∷_}
-use mathlib.Core.Option.{none}
 use Prim.Native.Nat.{ℕ, _+_, _≤_, _<_}
 use native.Mathlib.Omega.{arith}
 use borrow.Author.Needs.{needs}
@@ -9,12 +8,11 @@ use lib.Dec.{leb}
 use lib.ListN.{length}
 use borrow.Author.Tests.{leb-false, ltb-false}
 use Rattle.words.specs.declared.handle.Handle.{Handle}
-use Rattle.words.specs.Refusals.{_⇒_, judge}
+use Rattle.words.specs.Refusals.{_⇒_}
 use Rattle.words.specs.Calls.{valueLine}
-use Rattle.words.proofs.CheckLaws.{judged-pass, Passes}
 use Rattle.counters.specs.Promises.{done, Outcome, ChangedTold, outcome, stays}
 use Rattle.counters.specs.Calls.{pushTable, Pushed}
-use Rattle.counters.proofs.PromiseLaws.{promise-refused, Sizes, sizes-of, lines-of, push-zero, push-one}
+use Rattle.counters.proofs.PromiseLaws.{tree-over, promise-refused, PassedRecord, record-passed, push-zero, push-one}
 use Rattle.counters.proofs.change.push.Statement.{statement}
 use Rattle.counters.proofs.change.push.Tie as tie
 
@@ -27,39 +25,24 @@ enum-known-r c = search needs
 enum-told : tie.Need-enum-told
 enum-told c = search needs
 
--- the table passes
-passed : (c : tie.After-enum-told)
-    → judge (pushTable (c .before .before .before .before .before .args .h) (length (c .before .before .before .before .before .args .words .now))
-    (length (c .before .before .before .before .before .args .counters .now)) (c .before .before .before .before .before .args .v)) ≡ none
-passed c =
-    let a = c .before .before .before .before .before .args in
-    judged-pass (pushTable (a .h) (length (a .words .now)) (length (a .counters .now)) (a .v)) (c .before .before .check-push .result)
-    (c .before .before .check-push .ensures) (c .enum-told .given .1)
-
 -- what the checks leave
-known : (c : tie.After-enum-told)
-    → Sizes (c .before .before .before .before .before .args .h) (c .before .before .before .before .before .args .words .now)
-    (c .before .before .before .before .before .args .counters .now)
-known c =
+pass : (c : tie.After-enum-told)
+    → let a = c .before .before .before .before .before .args in
+    PassedRecord (a .h) (a .words .now) (a .counters .now) (valueLine (a .v) ∷ (leb (a .h .capacity) (a .h .length) ⇒ 7) ∷ [])
+pass c =
     let a = c .before .before .before .before .before .args in
-    sizes-of (a .h) (a .words .now) (a .counters .now) (valueLine (a .v) ∷ (leb (a .h .capacity) (a .h .length) ⇒ 7) ∷ []) (passed c)
-
--- and its own lines
-own : (c : tie.After-enum-told) → Passes (valueLine (c .before .before .before .before .before .args .v) ∷ (leb (c .before .before .before .before .before .args .h .capacity) (c .before .before .before .before .before .args .h .length) ⇒ 7) ∷ [])
-own c =
-    let a = c .before .before .before .before .before .args in
-    lines-of (a .h) (a .words .now) (a .counters .now) (valueLine (a .v) ∷ (leb (a .h .capacity) (a .h .length) ⇒ 7) ∷ []) (passed c)
+    record-passed (a .h) (a .words .now) (a .counters .now) _ (c .before .before .check-push .result) (c .before .before .check-push .ensures) (c .enum-told .given .1)
 
 room : (c : tie.After-enum-told)
     → c .before .before .before .before .before .args .h .length < c .before .before .before .before .before .args .h .capacity
-room c = leb-false _ _ (own c .1 .0)
+room c = leb-false _ _ (pass c .own .1 .0)
 
 -- v is 0 or 1
 fine : (c : tie.After-enum-told) → c .before .before .before .before .before .args .v ≤ 1
-fine c = ltb-false 1 (c .before .before .before .before .before .args .v) (own c .0)
+fine c = ltb-false 1 (c .before .before .before .before .before .args .v) (pass c .own .0)
 
 add-new : tie.Need-add-new
-add-new c = omega (arith, room c, known c .most)
+add-new c = omega (arith, room c, pass c .known .most)
 
 new-requires : tie.Need-new-requires
 new-requires c κs = search needs
@@ -67,7 +50,7 @@ new-requires c κs = search needs
 put-position-requires : tie.Need-put-position-requires
 put-position-requires c κs =
     let e = c .before .before in
-    let z = known e in
+    let z = pass e .known in
     (omega (arith, room e, z .words, z .step), fine e)
 
 -- the answer with the next handle, as the definition writes it
@@ -88,14 +71,14 @@ returns c =
     let a = e .before .before .before .before .before .args in
     let put = c .before .before .before .put-position in
     next n 0 (Pushed (a .h) (a .v) (a .words .now) (a .counters .now)) (put .last .0) (a .counters .now)
-    (push-zero (a .h) (a .words .now) (put .last .0) (a .counters .now) (a .v) (known e) (room e) (put .ensures)
-    (λ k. c .before .slice-known3 .given k .fits) (passed e) (c .if1 .taken))
+    (push-zero (a .h) (a .words .now) (put .last .0) (a .counters .now) (a .v) (pass e .known) (room e) (put .ensures)
+    (λ k. c .before .slice-known3 .given k .fits) (pass e .table) (c .if1 .taken))
 
-raise-path-requires : tie.Need-raise-path-requires
-raise-path-requires c κs =
+move-path-requires : tie.Need-move-path-requires
+move-path-requires c κs =
     let e = c .before .before .before .before .before .before .before in
-    let z = known e in
-    (z .counters, omega (arith, z .least), omega (arith, z .most), omega (arith, room e, z .step))
+    let z = pass e .known in
+    (tree-over z, omega (arith, room e, z .step))
 
 returns-2 : tie.Need-returns-2
 returns-2 c =
@@ -115,11 +98,11 @@ returns-3 c =
     let e = n .before in
     let a = e .before .before .before .before .before .args in
     let put = c .before .before .before .before .before .before .before .put-position in
-    let raised = c .before .before .raise-path in
+    let raised = c .before .before .move-path in
     let one : a .v ≡ 1 = omega (arith, fine e, c .before .before .before .before .if1 .left) in
     next n (raised .result) (Pushed (a .h) (a .v) (a .words .now) (a .counters .now)) (put .last .0) (raised .last .0)
-    (push-one (a .h) (a .words .now) (put .last .0) (a .counters .now) (a .v) (known e) (room e) (put .ensures)
-    (λ k. c .before .before .before .before .before .slice-known3 .given k .fits) (passed e) (raised .result) (raised .last .0) one
+    (push-one (a .h) (a .words .now) (put .last .0) (a .counters .now) (a .v) (pass e .known) (room e) (put .ensures)
+    (λ k. c .before .before .before .before .before .slice-known3 .given k .fits) (pass e .table) (raised .result) (raised .last .0) one
     (raised .ensures .0) (raised .ensures .1))
 
 pub push-spec : {M : Type 1} → statement M
@@ -134,7 +117,7 @@ push-spec =
     put-position-requires
     same-length
     returns
-    raise-path-requires
+    move-path-requires
     returns-2
     same-length-2
     same-length-3

@@ -1,7 +1,6 @@
 -- `counters::change::truncate` meets its contract. Assumes nothing.
 use mathlib.Core.Path.{_≡_, ap, _∙_}
 use mathlib.Core.List.{[], _∷_}
-use mathlib.Core.Option.{none}
 use Prim.Native.Nat.{_*_, _/_, _≤_}
 use native.Mathlib.Omega.{arith}
 use borrow.Author.Needs.{needs}
@@ -9,12 +8,11 @@ use lib.ListN.{length}
 use borrow.Author.Tests.{ltb-false}
 use Rattle.words.specs.declared.handle.Handle.{Handle}
 use Rattle.words.specs.Bits.{bitAt, ones}
-use Rattle.words.specs.Refusals.{judge}
 use Rattle.words.specs.Calls.{withinLine}
-use Rattle.words.proofs.CheckLaws.{judged-pass, Passes, unless-refused, unless-passed}
+use Rattle.words.proofs.CheckLaws.{unless-refused, unless-passed}
 use Rattle.counters.specs.Promises.{done, outcome, stays}
 use Rattle.counters.specs.Calls.{truncateTable}
-use Rattle.counters.proofs.PromiseLaws.{Sizes, sizes-of, lines-of, truncate-done}
+use Rattle.counters.proofs.PromiseLaws.{tree-over, PassedRecord, record-passed, truncate-done}
 use Rattle.counters.proofs.change.truncate.Statement.{statement}
 use Rattle.counters.proofs.change.truncate.Tie as tie
 
@@ -27,42 +25,27 @@ enum-known-r c = search needs
 enum-told : tie.Need-enum-told
 enum-told c = search needs
 
--- the table passes
-passed : (c : tie.After-enum-told)
-    → judge (truncateTable (c .before .before .before .before .before .args .h) (length (c .before .before .before .before .before .args .words .now))
-    (length (c .before .before .before .before .before .args .counters .now)) (c .before .before .before .before .before .args .n)) ≡ none
-passed c =
-    let a = c .before .before .before .before .before .args in
-    judged-pass (truncateTable (a .h) (length (a .words .now)) (length (a .counters .now)) (a .n)) (c .before .before .check-truncate .result)
-    (c .before .before .check-truncate .ensures) (c .enum-told .given .1)
-
 -- what the checks leave
-known : (c : tie.After-enum-told)
-    → Sizes (c .before .before .before .before .before .args .h) (c .before .before .before .before .before .args .words .now)
-    (c .before .before .before .before .before .args .counters .now)
-known c =
+pass : (c : tie.After-enum-told)
+    → let a = c .before .before .before .before .before .args in
+    PassedRecord (a .h) (a .words .now) (a .counters .now) (withinLine (a .h .length) (a .n) ∷ [])
+pass c =
     let a = c .before .before .before .before .before .args in
-    sizes-of (a .h) (a .words .now) (a .counters .now) (withinLine (a .h .length) (a .n) ∷ []) (passed c)
-
--- and its own lines
-own : (c : tie.After-enum-told) → Passes (withinLine (c .before .before .before .before .before .args .h .length) (c .before .before .before .before .before .args .n) ∷ [])
-own c =
-    let a = c .before .before .before .before .before .args in
-    lines-of (a .h) (a .words .now) (a .counters .now) (withinLine (a .h .length) (a .n) ∷ []) (passed c)
+    record-passed (a .h) (a .words .now) (a .counters .now) _ (c .before .before .check-truncate .result) (c .before .before .check-truncate .ensures) (c .enum-told .given .1)
 
 within : (c : tie.After-enum-told) → c .before .before .before .before .before .args .n ≤ c .before .before .before .before .before .args .h .length
-within c = ltb-false (c .before .before .before .before .before .args .h .length) (c .before .before .before .before .before .args .n) (own c .0)
+within c = ltb-false (c .before .before .before .before .before .args .h .length) (c .before .before .before .before .before .args .n) (pass c .own .0)
 
 put-positions-requires : tie.Need-put-positions-requires
 put-positions-requires c κs =
-    let z = known (c .before) in
+    let z = pass (c .before) .known in
     (omega (arith, within (c .before), z .long), omega (arith, z .words, z .step), omega arith, omega (arith, z .words, z .most))
 
 build-counters-requires : tie.Need-build-counters-requires
 build-counters-requires c κs =
-    let z = known (c .before .before .before .before .before .before) in
+    let z = pass (c .before .before .before .before .before .before) .known in
     let wipe = c .before .before .before .before .put-positions .ensures in
-    (omega (arith, wipe .long, z .words, z .step), z .counters, omega (arith, z .least), omega (arith, z .most))
+    (omega (arith, wipe .long, z .words, z .step), tree-over z)
 
 new-requires : tie.Need-new-requires
 new-requires c κs = search needs
@@ -86,7 +69,7 @@ returns-2 c =
     let a = e .before .before .before .before .before .args in
     let wipe = l .before .before .before .before .before .before .before .put-positions in
     let built = l .before .before .build-counters in
-    let z = known e in
+    let z = pass e .known in
     let whole : 512 * (a .h .capacity / 512) ≡ a .h .capacity = omega (arith, z .step) in
     ap (λ (g : Handle). outcome (done g (built .result) 0) (wipe .last .0) (built .last .1 .0)) (c .new .ensures)
     ∙ truncate-done (a .h) (a .words .now) (wipe .last .0) (a .counters .now) (built .last .1 .0) (a .n) (built .result) z (within e)

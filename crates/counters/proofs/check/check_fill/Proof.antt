@@ -1,13 +1,13 @@
 -- `counters::check::check_fill` meets its contract. Assumes nothing.
-use mathlib.Core.Path.{sym, _∙_}
+use mathlib.Core.Path.{_≡_, sym, _∙_}
 use mathlib.Core.List.{[], _∷_}
 use borrow.Author.Needs.{needs}
 use borrow.Author.Tests.{le-ltb, lt-ltb}
 use lib.Dec.{ltb}
-use Rattle.words.specs.Refusals.{_⇒_}
+use Rattle.words.specs.Refusals.{_⇒_, judge}
 use Rattle.words.specs.Calls.{valueLine, withinLine}
 use Rattle.words.proofs.CheckLaws.{refused-first, passed-first}
-use Rattle.counters.specs.Calls.{checks}
+use Rattle.counters.specs.Calls.{checks, fillTable}
 use Rattle.counters.proofs.check.check_fill.Statement.{statement}
 use Rattle.counters.proofs.check.check_fill.Tie as tie
 
@@ -23,35 +23,32 @@ enum-told-2 c = search needs
 returns : tie.Need-returns
 returns c =
     let a = c .before .before .before .args in
-    refused-first (checks (a .h) (a .words) (a .counters)) (valueLine (a .v) ∷ (ltb (a .b) (a .a) ⇒ 5) ∷ withinLine (a .h .length) (a .b) ∷ []) _ _ (c .before .before .check-record .ensures) (c .enum-told2 .given .1)
+    refused-first (checks (a .h) (a .words) (a .counters)) (valueLine (a .v) ∷ (ltb (a .b) (a .a) ⇒ 5) ∷ withinLine (a .h .length) (a .b) ∷ []) _ _
+    (c .before .before .check-record .ensures) (c .enum-told2 .given .1)
+
+-- past the first three lines, the others decide
+rest : (c : tie.After-enum-told)
+    → let a = c .before .before .before .args in
+    judge (fillTable (a .h) (a .words) (a .counters) (a .a) (a .b) (a .v)) ≡ judge
+    (valueLine (a .v) ∷ (ltb (a .b) (a .a) ⇒ 5) ∷ withinLine (a .h .length) (a .b) ∷ [])
+rest c =
+    let a = c .before .before .before .args in
+    passed-first (checks (a .h) (a .words) (a .counters)) (valueLine (a .v) ∷ (ltb (a .b) (a .a) ⇒ 5) ∷ withinLine (a .h .length) (a .b) ∷ []) _
+    (c .before .before .check-record .ensures) (c .enum-told .given .1)
 
 returns-2 : tie.Need-returns-2
-returns-2 c =
-    let a = c .before .before .before .before .args in
-    sym (passed-first (checks (a .h) (a .words) (a .counters)) (valueLine (a .v) ∷ (ltb (a .b) (a .a) ⇒ 5) ∷ withinLine (a .h .length) (a .b) ∷ []) _
-    (c .before .before .before .check-record .ensures) (c .before .enum-told .given .1)
-    ∙ simp (lt-ltb _ _ (c .if1 .taken)))
+returns-2 c = sym (rest (c .before) ∙ simp (lt-ltb _ _ (c .if1 .taken)))
 
 returns-3 : tie.Need-returns-3
-returns-3 c =
-    let a = c .before .before .before .before .before .args in
-    sym (passed-first (checks (a .h) (a .words) (a .counters)) (valueLine (a .v) ∷ (ltb (a .b) (a .a) ⇒ 5) ∷ withinLine (a .h .length) (a .b) ∷ []) _
-    (c .before .before .before .before .check-record .ensures) (c .before .before .enum-told .given .1)
-    ∙ simp (le-ltb _ _ (c .before .if1 .left), lt-ltb _ _ (c .if2 .taken)))
+returns-3 c = sym (rest (c .before .before) ∙ simp (le-ltb _ _ (c .before .if1 .left), lt-ltb _ _ (c .if2 .taken)))
 
 returns-4 : tie.Need-returns-4
 returns-4 c =
-    let a = c .before .before .before .before .before .before .before .args in
-    sym (passed-first (checks (a .h) (a .words) (a .counters)) (valueLine (a .v) ∷ (ltb (a .b) (a .a) ⇒ 5) ∷ withinLine (a .h .length) (a .b) ∷ []) _
-    (c .before .before .before .before .before .before .check-record .ensures) (c .before .before .before .before .enum-told .given .1)
-    ∙ simp (le-ltb _ _ (c .before .before .before .if1 .left), le-ltb _ _ (c .before .before .if2 .left), lt-ltb _ _ (c .if3 .taken)))
+    sym (rest (c .before .before .before .before) ∙ simp (le-ltb _ _ (c .before .before .before .if1 .left), le-ltb _ _ (c .before .before .if2 .left), lt-ltb _ _ (c .if3 .taken)))
 
 returns-5 : tie.Need-returns-5
 returns-5 c =
-    let a = c .before .before .before .before .before .before .before .args in
-    sym (passed-first (checks (a .h) (a .words) (a .counters)) (valueLine (a .v) ∷ (ltb (a .b) (a .a) ⇒ 5) ∷ withinLine (a .h .length) (a .b) ∷ []) _
-    (c .before .before .before .before .before .before .check-record .ensures) (c .before .before .before .before .enum-told .given .1)
-    ∙ simp (le-ltb _ _ (c .before .before .before .if1 .left), le-ltb _ _ (c .before .before .if2 .left), le-ltb _ _ (c .if3 .left)))
+    sym (rest (c .before .before .before .before) ∙ simp (le-ltb _ _ (c .before .before .before .if1 .left), le-ltb _ _ (c .before .before .if2 .left), le-ltb _ _ (c .if3 .left)))
 
 pub check-fill-spec : {M : Type 1} → statement M
 check-fill-spec = tie.close (tie.spec check-record-requires enum-told enum-told-2 returns returns-2 returns-3 returns-4 returns-5)

@@ -5,7 +5,7 @@ use Prim.Native.Nat.{ℕ, _+_, _-_, _*_, _/_, _≤_}
 use native.Mathlib.Omega.{arith}
 use lib.ListN.{take, drop}
 use Rattle.words.specs.Bits.{bitAt, ones}
-use Rattle.words.proofs.Sums.{ones-zero, ones-le}
+use Rattle.words.proofs.Sums.{sum-zero, ones-le}
 use Rattle.words.proofs.WordLaws.{bitAt-le}
 use Rattle.counters.proofs.RankLaws.{ones-in-block}
 use borrow.Author.Needs.{needs}
@@ -15,7 +15,7 @@ use Rattle.counters.proofs.rank.ones_before.Tie as tie
 returns : tie.Need-returns
 returns c =
     let ws = c .before .before .before .args .words .now in
-    (omega arith, λ fit. sym (ap (ones (bitAt ws)) (c .if1 .taken) ∙ ones-zero (bitAt ws)))
+    (omega arith, λ fit. sym (ap (ones (bitAt ws)) (c .if1 .taken) ∙ sum-zero (bitAt ws)))
 
 sub-b : tie.Need-sub-b
 sub-b c = search needs
@@ -27,7 +27,7 @@ add-e : tie.Need-add-e
 add-e c = search needs
 
 ones-before-block-requires : tie.Need-ones-before-block-requires
-ones-before-block-requires c κs = search needs
+ones-before-block-requires c κs = (c .before .before .before .pre .1, omega arith)
 
 mul-block-rank : tie.Need-mul-block-rank
 mul-block-rank c = search needs

@@ -1,17 +1,14 @@
 -- `counters::read::select` meets its contract. Assumes nothing.
-use mathlib.Core.Path.{_≡_}
 use mathlib.Core.List.{[], _∷_}
-use mathlib.Core.Option.{none}
 use Prim.Native.Nat.{_≤_}
 use native.Mathlib.Omega.{arith}
 use borrow.Author.Needs.{needs}
 use lib.ListN.{length}
 use borrow.Author.Tests.{leb-false, ltb-false}
-use Rattle.words.specs.Refusals.{judge, refused}
+use Rattle.words.specs.Refusals.{refused}
 use Rattle.words.specs.Calls.{valueLine, absentLine}
-use Rattle.words.proofs.CheckLaws.{judged-pass, Passes}
 use Rattle.counters.specs.Calls.{selectTable}
-use Rattle.counters.proofs.PromiseLaws.{promise-refused, Sizes, sizes-of, lines-of}
+use Rattle.counters.proofs.PromiseLaws.{tree-over, promise-refused, PassedRecord, record-passed}
 use Rattle.counters.proofs.ReadLaws.{select-over, select-absent, select-done, select-past}
 use Rattle.counters.proofs.read.select.Statement.{statement}
 use Rattle.counters.proofs.read.select.Tie as tie
@@ -25,44 +22,28 @@ enum-known-r c = search needs
 enum-told : tie.Need-enum-told
 enum-told c = search needs
 
--- the table passes
-passed : (c : tie.After-enum-told)
-    → judge (selectTable (c .before .before .before .before .before .args .h) (length (c .before .before .before .before .before .args .words .now))
-    (length (c .before .before .before .before .before .args .counters .now)) (c .before .before .before .before .before .args .v)
-    (c .before .before .before .before .before .args .k)) ≡ none
-passed c =
-    let a = c .before .before .before .before .before .args in
-    judged-pass (selectTable (a .h) (length (a .words .now)) (length (a .counters .now)) (a .v) (a .k)) (c .before .before .check-select .result)
-    (c .before .before .check-select .ensures) (c .enum-told .given .1)
-
 -- what the checks leave
-known : (c : tie.After-enum-told)
-    → Sizes (c .before .before .before .before .before .args .h) (c .before .before .before .before .before .args .words .now)
-    (c .before .before .before .before .before .args .counters .now)
-known c =
+pass : (c : tie.After-enum-told)
+    → let a = c .before .before .before .before .before .args in
+    PassedRecord (a .h) (a .words .now) (a .counters .now) (valueLine (a .v) ∷ absentLine (a .h .length) (a .k) ∷ [])
+pass c =
     let a = c .before .before .before .before .before .args in
-    sizes-of (a .h) (a .words .now) (a .counters .now) (valueLine (a .v) ∷ absentLine (a .h .length) (a .k) ∷ []) (passed c)
-
--- and its own lines
-own : (c : tie.After-enum-told)
-    → let a = c .before .before .before .before .before .args in Passes (valueLine (a .v) ∷ absentLine (a .h .length) (a .k) ∷ [])
-own c =
-    let a = c .before .before .before .before .before .args in
-    lines-of (a .h) (a .words .now) (a .counters .now) (valueLine (a .v) ∷ absentLine (a .h .length) (a .k) ∷ []) (passed c)
+    record-passed (a .h) (a .words .now) (a .counters .now) _ (c .before .before .check-select .result) (c .before .before .check-select .ensures) (c .enum-told .given .1)
 
 -- v is 0 or 1
 fine : (c : tie.After-enum-told) → c .before .before .before .before .before .args .v ≤ 1
-fine c = ltb-false 1 (c .before .before .before .before .before .args .v) (own c .0)
+fine c = ltb-false 1 (c .before .before .before .before .before .args .v) (pass c .own .0)
 
 ones-held-requires : tie.Need-ones-held-requires
-ones-held-requires c κs = let z = known c in (z .counters, omega (arith, z .least), omega (arith, z .most))
+ones-held-requires c κs = let z = pass c .known in tree-over z
 
 returns : tie.Need-returns
 returns c =
     let e = c .before .before in
     let a = e .before .before .before .before .before .args in
     let total = c .before .ones-held in
-    select-over (a .h) (a .words .now) (a .counters .now) (a .v) (a .k) (total .result) (known e) (fine e) (passed e) (total .ensures .1) (c .if1 .taken)
+    select-over (a .h) (a .words .now) (a .counters .now) (a .v) (a .k) (total .result) (pass e .known) (fine e) (pass e .table) (total .ensures .1)
+    (c .if1 .taken)
 
 of-value-requires : tie.Need-of-value-requires
 of-value-requires c κs = search needs
@@ -72,15 +53,15 @@ returns-2 c =
     let e = c .before .before .before .before in
     let a = e .before .before .before .before .before .args in
     let total = c .before .before .before .ones-held in
-    select-absent (a .h) (a .words .now) (a .counters .now) (a .v) (a .k) (total .result) (known e) (fine e) (passed e) (total .ensures .1)
+    select-absent (a .h) (a .words .now) (a .counters .now) (a .v) (a .k) (total .result) (pass e .known) (fine e) (pass e .table) (total .ensures .1)
     (omega (arith, c .before .of-value .ensures, c .if2 .taken))
 
 select-position-requires : tie.Need-select-position-requires
 select-position-requires c κs =
     let e = c .before .before .before .before in
     let a = e .before .before .before .before .before .args in
-    let z = known e in
-    (omega (arith, z .words, z .step), z .counters, omega (arith, z .least), omega (arith, z .most), fine e, omega (arith, leb-false (a .h .length) (a .k) (own e .1 .0), z .long, z .step))
+    let z = pass e .known in
+    (omega (arith, z .words, z .step), tree-over z, fine e, omega (arith, leb-false (a .h .length) (a .k) (pass e .own .1 .0), z .long, z .step))
 
 returns-3 : tie.Need-returns-3
 returns-3 c =
@@ -94,7 +75,8 @@ returns-4 c =
     let a = e .before .before .before .before .before .args in
     let total = c .before .before .before .before .before .ones-held in
     let place = c .before .select-position in
-    select-done (a .h) (a .words .now) (a .counters .now) (a .v) (a .k) (total .result) (known e) (fine e) (passed e) (total .ensures .1) (place .result)
+    select-done (a .h) (a .words .now) (a .counters .now) (a .v) (a .k) (total .result) (pass e .known) (fine e) (pass e .table) (total .ensures .1)
+    (place .result)
     (omega (arith, c .before .before .before .of-value .ensures, c .before .before .if2 .left)) (place .ensures .1) (c .if3 .taken)
 
 returns-5 : tie.Need-returns-5
@@ -103,7 +85,8 @@ returns-5 c =
     let a = e .before .before .before .before .before .args in
     let total = c .before .before .before .before .before .ones-held in
     let place = c .before .select-position in
-    select-past (a .h) (a .words .now) (a .counters .now) (a .v) (a .k) (total .result) (known e) (fine e) (passed e) (total .ensures .1) (place .result)
+    select-past (a .h) (a .words .now) (a .counters .now) (a .v) (a .k) (total .result) (pass e .known) (fine e) (pass e .table) (total .ensures .1)
+    (place .result)
     (omega (arith, c .before .before .before .of-value .ensures, c .before .before .if2 .left)) (place .ensures .1) (c .if3 .left)
 
 pub select-spec : {M : Type 1} → statement M

@@ -11,14 +11,14 @@ use lib.ListN.{length}
 use Rattle.words.specs.Bits.{bitAt, ones}
 use Rattle.words.specs.Strip.{PastZero}
 use Rattle.words.specs.Refusals.{judge}
-use Rattle.words.proofs.Sums.{lt-or, ones-flat}
+use Rattle.words.proofs.Sums.{lt-or, sum-flat}
 use Rattle.words.proofs.WordLaws.{bitAt-le, bitAt-past}
 use Rattle.words.proofs.CheckLaws.{judged-pass}
 use Rattle.counters.specs.Tree.{blocksOf}
 use Rattle.counters.specs.Record.{AllFit}
 use Rattle.counters.specs.Working.{Decides}
 use Rattle.counters.specs.Calls.{checks}
-use Rattle.counters.proofs.PromiseLaws.{Sizes, sizes}
+use Rattle.counters.proofs.PromiseLaws.{tree-over, Sizes, sizes}
 use Rattle.counters.proofs.ReadLaws.{verify-refused, verify-unfit, verify-fits}
 use Rattle.counters.proofs.read.verify.Statement.{statement}
 use Rattle.counters.proofs.read.verify.Tie as tie
@@ -63,7 +63,7 @@ returns c =
 counters-fit-requires : tie.Need-counters-fit-requires
 counters-fit-requires c κs =
     let z = known (c .before .before) in
-    (omega (arith, z .words, z .step), z .counters, omega (arith, z .least), omega (arith, z .most))
+    (omega (arith, z .words, z .step), tree-over z)
 
 returns-2 : tie.Need-returns-2
 returns-2 c =
@@ -77,7 +77,7 @@ returns-2 c =
 ones-held-requires : tie.Need-ones-held-requires
 ones-held-requires c κs =
     let z = known (c .before .before .before .before) in
-    (z .counters, omega (arith, z .least), omega (arith, z .most))
+    tree-over z
 
 returns-3 : tie.Need-returns-3
 returns-3 c =
@@ -113,9 +113,11 @@ returns-4 c =
     let right : AllFit (bitAt (a .words .now)) (blocksOf (a .h .capacity)) (a .counters .now) =
     subst (λ (b : Bool). Decides b (AllFit (bitAt (a .words .now)) (blocksOf (a .h .capacity)) (a .counters .now))) (not-false (fit .result) (c .before .if2 .left)) (fit .ensures) in
     let whole : 512 * blocksOf (a .h .capacity) ≡ a .h .capacity = omega (arith, z .step) in
-    verify-fits (a .h) (a .words .now) (a .counters .now) (c .ones-held .result) (passed e) (record { clean = clean s; right = right })
+    verify-fits (a .h) (a .words .now) (a .counters .now) (c .ones-held .result) (passed e)
+    (λ k. e .before .before .before .before .shared-slice-known .given k .fits)
+    (record { clean = clean s; right = right })
     (c .ones-held .ensures .1 (bitAt (a .words .now)) right (λ p l. clean s p (omega (arith, whole, z .long)))
-    ∙ ap (ones (bitAt (a .words .now))) whole ∙ ones-flat (bitAt (a .words .now)) (a .h .length) (a .h .capacity) (z .long) (clean s))
+    ∙ ap (ones (bitAt (a .words .now))) whole ∙ sum-flat (bitAt (a .words .now)) (a .h .length) (a .h .capacity) (z .long) (clean s))
 
 pub verify-spec : {M : Type 1} → statement M
 verify-spec =

@@ -4,31 +4,31 @@ use Prim.Native.Nat.{ℕ, _+_, _*_, _<_}
 use native.Mathlib.Nat.{add-zero}
 use native.Mathlib.Omega.{arith}
 use borrow.Author.Needs.{needs}
-use Rattle.counters.specs.Descent.{Lies}
+use Rattle.counters.specs.Descent.{FoundIn}
 use Rattle.counters.proofs.SelectionLaws.{gain, eighth, group-valued, key-valued}
 use Rattle.counters.proofs.select.child_with.Statement.{statement}
 use Rattle.counters.proofs.select.child_with.Tie as tie
 
-add-count-reached : tie.Need-add-count-reached
-add-count-reached c = search needs
+add-part-with : tie.Need-add-part-with
+add-part-with c = search needs
 
-mul-count-reached : tie.Need-mul-count-reached
-mul-count-reached c = search needs
+mul-part-with : tie.Need-mul-part-with
+mul-part-with c = search needs
 
-count-reached-requires : tie.Need-count-reached-requires
-count-reached-requires c κs = search needs
+part-with-requires : tie.Need-part-with-requires
+part-with-requires c κs = search needs
 
 mul-c : tie.Need-mul-c
 mul-c c = search needs
 
-add-count-reached-2 : tie.Need-add-count-reached-2
-add-count-reached-2 c = search needs
+add-part-with-2 : tie.Need-add-part-with-2
+add-part-with-2 c = search needs
 
-add-count-reached-3 : tie.Need-add-count-reached-3
-add-count-reached-3 c = search needs
+add-part-with-3 : tie.Need-add-part-with-3
+add-part-with-3 c = search needs
 
-count-reached-requires-2 : tie.Need-count-reached-requires-2
-count-reached-requires-2 c κs = search needs
+part-with-requires-2 : tie.Need-part-with-requires-2
+part-with-requires-2 c κs = search needs
 
 add-t9 : tie.Need-add-t9
 add-t9 c = search needs
@@ -36,18 +36,18 @@ add-t9 c = search needs
 returns : tie.Need-returns
 returns c =
     let s = c .before .before .before .before .before .args in
-    let x = c .before .before .before .count-reached in
-    let y = c .before .count-reached2 in
+    let x = c .before .before .before .part-with in
+    let y = c .before .part-with2 in
     let g : ℕ = x .result .index in
     let i : ℕ = y .result .index in (
       omega (arith, x .ensures .0, y .ensures .0),
       λ B n up counts e top.
           let w = x .ensures .1 (gain (λ m. B (8 * m))) (group-valued B (s .v) (s .size) (s .counters .now) (s .at) up counts) in
-          let group : Lies (λ m. B (8 * m)) n g (x .result .left) =
+          let group : FoundIn (λ m. B (8 * m)) n g (x .result .left) =
           eighth (λ m. B (8 * m)) (s .k) n g (x .result .left) (λ a b l. up (8 * a) (8 * b) (omega arith)) e top (w .0) (w .1) in
-          let z = y .ensures .1 (gain (λ m. B (8 * g + m))) (λ j l. key-valued B (s .v) (s .size) (s .counters .now) (s .at) up counts g j (x .ensures .0) l) in
+          let z = y .ensures .1 (gain (λ m. B (8 * g + m))) (key-valued B (s .v) (s .size) (s .counters .now) (s .at) up counts g (x .ensures .0)) in
           let next : 8 * (g + 1) ≡ 8 * g + 8 = omega arith in
-          let child : Lies (λ m. B (8 * g + m)) n i (y .result .left) =
+          let child : FoundIn (λ m. B (8 * g + m)) n i (y .result .left) =
           eighth (λ m. B (8 * g + m)) (x .result .left) n i (y .result .left) (λ a b l. up (8 * g + a) (8 * g + b) (omega arith))
           (omega (arith, group .under, ap B (add-zero (8 * g)))) (subst (λ (m : ℕ). n < B m) next (group .over)) (z .0) (z .1) in
           let past : 8 * g + (i + 1) ≡ 8 * g + i + 1 = omega arith in
@@ -58,12 +58,12 @@ pub child-with-spec : {M : Type 1} → statement M
 child-with-spec =
     tie.close
     (tie.spec
-    add-count-reached
-    mul-count-reached
-    count-reached-requires
+    add-part-with
+    mul-part-with
+    part-with-requires
     mul-c
-    add-count-reached-2
-    add-count-reached-3
-    count-reached-requires-2
+    add-part-with-2
+    add-part-with-3
+    part-with-requires-2
     add-t9
     returns)

@@ -5,17 +5,18 @@ use Prim.Native.Nat.{ℕ, suc, _+_, _-_, _*_, _≤_, _<_}
 use native.Mathlib.Omega.{arith}
 use borrow.Author.Needs.{needs}
 use Rattle.counters.specs.Tree.{nodes, counterCount}
-use Rattle.counters.specs.Descent.{Lies, valuesBefore}
-use Rattle.counters.proofs.TreeLaws.{height-le, nodes-le, nodes-zero}
-use Rattle.counters.proofs.SelectionLaws.{Leads, Way, way-root, way-end, way-down, lies-there}
+use Rattle.counters.specs.Working.{mostBlocks}
+use Rattle.counters.specs.Descent.{FoundIn, valuesBefore}
+use Rattle.counters.proofs.TreeLaws.{height-le, level-few, nodes-zero}
+use Rattle.counters.proofs.SelectionLaws.{Leads, Way, way-root, way-end, way-down, found-there}
 use Rattle.counters.proofs.select.descend.Statement.{statement}
 use Rattle.counters.proofs.select.descend.Tie as tie
 
 abbrev Inv-loop : tie.InvT-loop
-Inv-loop counters blocks v k t₀ count₀ start₀ index₀ left₀ t count start index left = Way blocks v k counters t count start index left
+Inv-loop counters blocks v k t₀ level₀ index₀ left₀ t level index left = Way blocks v k counters t level index left
 
 abbrev μ-loop : tie.MeasureT-loop
-μ-loop counters blocks v k t₀ count₀ start₀ index₀ left₀ t count start index left = t
+μ-loop counters blocks v k t₀ level₀ index₀ left₀ t level index left = t
 
 height-of-requires : tie.Need-height-of-requires Inv-loop μ-loop
 height-of-requires c κs = search needs
@@ -23,20 +24,18 @@ height-of-requires c κs = search needs
 loop-holds : tie.Need-loop-holds Inv-loop μ-loop
 loop-holds c =
     let s = c .before .before in
-    subst (λ (t : ℕ). Way (s .args .blocks) (s .args .v) (s .args .k) (s .args .counters .now) t 1 0 0 (s .args .k)) (sym (c .height-of .ensures))
-    (way-root (s .args .blocks) (s .args .v) (s .args .k) (s .args .counters .now) (s .pre .1) (s .pre .2))
+    subst (λ (t : ℕ). Way (s .args .blocks) (s .args .v) (s .args .k) (s .args .counters .now) t (record { count = 1; start = 0 }) 0 (s .args .k)) (sym (c .height-of .ensures))
+    (way-root (s .args .blocks) (s .args .v) (s .args .k) (s .args .counters .now) (s .pre .0))
 
 -- the level's counters are there, and it has no more nodes than there are blocks
 room : (c : tie.In-loop Inv-loop μ-loop)
     → let s = c .before .before .before .before in
     let l = c .before .loop in
-    (l .start + 72 * l .count ≤ counterCount (s .args .blocks)) × (l .count ≤ 262144)
+    (l .level .start + 72 * l .level .count ≤ counterCount (s .args .blocks)) × (l .level .count ≤ mostBlocks)
 room c =
     let s = c .before .before .before .before in
-    let l = c .before .loop in (
-      way-end (s .args .blocks) (s .args .v) (s .args .k) (s .args .counters .now) (l .t) (l .count) (l .start) (l .index) (l .left) (c .loop-test .taken) (l .inv) .1,
-      omega (arith, l .inv .place .counted, nodes-le (s .args .blocks) (l .t) (s .pre .1), s .pre .2),
-    )
+    let l = c .before .loop in
+    (way-end (s .args .blocks) (s .args .v) (s .args .k) (s .args .counters .now) (c .loop-test .taken) (l .inv) .1, level-few (l .inv .place) (s .pre .0))
 
 -- at most three levels
 low : (c : tie.In-loop Inv-loop μ-loop) → c .before .loop .t ≤ 3
@@ -46,54 +45,56 @@ mul-child-with : tie.Need-mul-child-with Inv-loop μ-loop
 mul-child-with c = omega (arith, room c, c .before .loop .inv .there)
 
 add-child-with : tie.Need-add-child-with Inv-loop μ-loop
-add-child-with c = omega (arith, room c, c .before .loop .inv .there)
+add-child-with c = omega (arith, room (c .before), c .before .before .loop .inv .there)
 
 child-bits-requires : tie.Need-child-bits-requires Inv-loop μ-loop
-child-bits-requires c κs = omega (arith, low c)
+child-bits-requires c κs = omega (arith, low (c .before))
 
 child-with-requires : tie.Need-child-with-requires Inv-loop μ-loop
-child-with-requires c κs = omega (arith, room (c .before), c .before .before .loop .inv .there, c .child-bits .ensures .1)
-
-mul-start : tie.Need-mul-start Inv-loop μ-loop
-mul-start c = omega (arith, room (c .before .before))
-
-add-start : tie.Need-add-start Inv-loop μ-loop
-add-start c = omega (arith, room (c .before .before))
+child-with-requires c κs = omega (arith, room (c .before .before), c .before .before .before .loop .inv .there, c .child-bits .ensures .1)
 
 sub-t : tie.Need-sub-t Inv-loop μ-loop
 sub-t c = omega arith
 
 nodes-of-requires : tie.Need-nodes-of-requires Inv-loop μ-loop
-nodes-of-requires c κs = omega (arith, low (c .before .before))
+nodes-of-requires c κs = omega (arith, low (c .before .before .before))
+
+mul-t12 : tie.Need-mul-t12 Inv-loop μ-loop
+mul-t12 c = omega (arith, room (c .before .before .before .before .before))
+
+add-t14 : tie.Need-add-t14 Inv-loop μ-loop
+add-t14 c = omega (arith, room (c .before .before .before .before .before .before))
 
 mul-index : tie.Need-mul-index Inv-loop μ-loop
-mul-index c = omega (arith, room (c .before .before .before), c .before .before .before .before .loop .inv .there)
+mul-index c =
+    omega (arith, room (c .before .before .before .before .before .before), c .before .before .before .before .before .before .before .loop .inv .there)
 
 add-index : tie.Need-add-index Inv-loop μ-loop
-add-index c = omega (arith, room (c .before .before .before .before), c .before .before .before .before .before .loop .inv .there, c .before .before .child-with .ensures .0)
+add-index c =
+    omega (arith, room (c .before .before .before .before .before .before .before), c .before .before .before .before .before .before .before .before .loop .inv .there, c .before .before .before .before .child-with .ensures .0)
 
 -- the child found holds the k-th v
 found : (c : tie.After-nodes-of Inv-loop μ-loop)
-    → let s = c .before .before .before .before .before .before .before in
-    let l = c .before .before .before .before .loop in
+    → let s = c .before .before .before .before .before .before .before .before in
+    let l = c .before .before .before .before .before .loop in
     let r = c .before .child-with .result in
     Leads (s .args .blocks) (s .args .v) (s .args .k) (s .args .counters .now) (l .t - 1) (64 * l .index + r .index) (r .left)
 found c =
-    let s = c .before .before .before .before .before .before .before in
-    let l = c .before .before .before .before .loop in
+    let s = c .before .before .before .before .before .before .before .before in
+    let l = c .before .before .before .before .before .loop in
     let x = c .before .child-with in
     let size = c .before .before .child-bits in
-    way-down (s .args .blocks) (s .args .v) (s .args .k) (s .args .counters .now) (l .t) (l .count) (l .start) (l .index) (l .left) (size .result)
-    (x .result .index) (x .result .left) (c .before .before .before .loop-test .taken) (l .inv) (size .ensures .0) (x .ensures .1)
+    way-down (s .args .blocks) (s .args .v) (s .args .k) (s .args .counters .now) (size .result)
+    (x .result .index) (x .result .left) (c .before .before .before .before .loop-test .taken) (l .inv) (size .ensures .0) (x .ensures)
 
 returns : tie.Need-returns Inv-loop μ-loop
 returns c f bits fit h =
-    let n = c .before .before in
-    let s = n .before .before .before .before .before .before .before in
-    let l = n .before .before .before .before .loop in
+    let n = c .before .before .before .before .before in
+    let s = n .before .before .before .before .before .before .before .before in
+    let l = n .before .before .before .before .before .loop in
     let r = n .before .child-with .result in
     let there : 64 * l .index + r .index < nodes (s .args .blocks) (l .t - 1) =
-    lies-there f (s .args .v) (s .args .blocks) (l .t - 1) (s .args .k) (64 * l .index + r .index) (r .left) h (found n f bits fit h) in
+    found-there f (s .args .v) (s .args .blocks) (l .t - 1) (s .args .k) (64 * l .index + r .index) (r .left) h (found n f bits fit h) in
     absurd (omega (arith, there, n .nodes-of .ensures, c .if1 .taken))
 
 loop-less : tie.Need-loop-less Inv-loop μ-loop
@@ -101,17 +102,16 @@ loop-less c = omega arith
 
 loop-again : tie.Need-loop-again Inv-loop μ-loop
 loop-again c =
-    let n = c .before .before in
-    let s = n .before .before .before .before .before .before .before in
-    let l = n .before .before .before .before .loop in
+    let n = c .before .before .before .before .before in
+    let s = n .before .before .before .before .before .before .before .before in
+    let l = n .before .before .before .before .before .loop in
     record {
       level = omega (arith, l .inv .level);
       place =
           record {
             counted = n .nodes-of .ensures;
             starts =
-                way-end (s .args .blocks) (s .args .v) (s .args .k) (s .args .counters .now) (l .t) (l .count) (l .start) (l .index) (l .left)
-                (n .before .before .before .loop-test .taken) (l .inv) .0;
+                way-end (s .args .blocks) (s .args .v) (s .args .k) (s .args .counters .now) (n .before .before .before .before .loop-test .taken) (l .inv) .0;
           };
       there = c .if1 .left;
       leads = found n;
@@ -124,7 +124,7 @@ returns-2 c f bits fit h =
     let z : l .t ≡ 0 = omega arith in
     let one : suc (l .t) ≡ 1 = omega arith in (
       omega (arith, l .inv .there, l .inv .place .counted, ap (nodes (s .blocks)) z, nodes-zero (s .blocks)),
-      subst (λ (t : ℕ). Lies (valuesBefore f (s .v) t) (s .k) (l .index) (l .left)) one (l .inv .leads f bits fit h),
+      subst (λ (t : ℕ). FoundIn (valuesBefore f (s .v) t) (s .k) (l .index) (l .left)) one (l .inv .leads f bits fit h),
     )
 
 pub descend-spec : {M : Type 1} → statement M
@@ -139,10 +139,10 @@ descend-spec =
     add-child-with
     child-bits-requires
     child-with-requires
-    mul-start
-    add-start
     sub-t
     nodes-of-requires
+    mul-t12
+    add-t14
     mul-index
     add-index
     returns

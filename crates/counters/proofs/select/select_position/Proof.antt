@@ -11,7 +11,7 @@ use Rattle.words.specs.Words.{placeIn}
 use Rattle.words.proofs.WordLaws.{bitAt-le}
 use Rattle.words.proofs.SearchLaws.{select-le}
 use Rattle.counters.specs.Record.{AllFit}
-use Rattle.counters.specs.Descent.{Lies, valuesBefore}
+use Rattle.counters.specs.Descent.{FoundIn, valuesBefore}
 use Rattle.counters.proofs.SelectionLaws.{block-place}
 use Rattle.counters.proofs.select.select_position.Statement.{statement}
 use Rattle.counters.proofs.select.select_position.Tie as tie
@@ -23,7 +23,7 @@ cast-descend : tie.Need-cast-descend
 cast-descend c = search needs
 
 descend-requires : tie.Need-descend-requires
-descend-requires c κs = search needs
+descend-requires c κs = let p = c .before .before .pre in (p .1, p .2)
 
 returns : tie.Need-returns
 returns c =
@@ -76,7 +76,7 @@ place c fit h =
     let y = c .before .wide in
     let l = x .ensures (bitAt (s .words .now)) (bitAt-le (s .words .now)) fit h in
     block-place (s .words .now) (s .blocks) b (s .v) (s .k) (y .result) (8 * b + 8 - 8 * b) (c .block-select .result) (omega arith) (l .0)
-    (subst (λ (n : ℕ). Lies (valuesBefore (bitAt (s .words .now)) (s .v) 1) (s .k) b n) (sym (y .ensures .0)) (l .1)) (c .block-select .ensures)
+    (subst (λ (n : ℕ). FoundIn (valuesBefore (bitAt (s .words .now)) (s .v) 1) (s .k) b n) (sym (y .ensures .0)) (l .1)) (c .block-select .ensures)
 
 returns-2 : tie.Need-returns-2
 returns-2 c =

@@ -26,25 +26,22 @@ loop-holds c = omega (arith, nodes-zero (c .before .args .capacity / 512), total
 few : (c : tie.At-loop Inv-loop μ-loop) → c .before .height-of .result ≤ 3
 few c = omega (arith, c .before .height-of .ensures, height-le (c .before .before .args .capacity / 512))
 
-sub-count : tie.Need-sub-count Inv-loop μ-loop
-sub-count c = search needs
-
-add-count : tie.Need-add-count Inv-loop μ-loop
-add-count c = omega arith
+parents-requires : tie.Need-parents-requires Inv-loop μ-loop
+parents-requires c κs = omega arith
 
 add-sum : tie.Need-add-sum Inv-loop μ-loop
-add-sum c = omega (arith, few (c .before))
+add-sum c = omega (arith, few (c .before .before))
 
 add-t : tie.Need-add-t Inv-loop μ-loop
-add-t c = omega (arith, few (c .before))
+add-t c = omega (arith, few (c .before .before))
 
 loop-less : tie.Need-loop-less Inv-loop μ-loop
 loop-less c = omega arith
 
 loop-again : tie.Need-loop-again Inv-loop μ-loop
 loop-again c =
-    let n : ℕ = c .before .before .before .args .capacity / 512 in
-    let t : ℕ = c .before .loop .t in
+    let n : ℕ = c .before .before .before .before .args .capacity / 512 in
+    let t : ℕ = c .before .before .loop .t in
     (omega arith, omega (arith, nodes-more n t), omega (arith, nodes-more n t, total-more n t), omega arith, omega arith)
 
 mul-result : tie.Need-mul-result Inv-loop μ-loop
@@ -64,8 +61,7 @@ counter-count-spec =
     μ-loop
     height-of-requires
     loop-holds
-    sub-count
-    add-count
+    parents-requires
     add-sum
     add-t
     loop-less

@@ -6,10 +6,10 @@ use native.Mathlib.Omega.{arith}
 use lib.ListN.{length}
 use borrow.Author.Needs.{needs}
 use borrow.Author.Tests.{eq-eqb, eqb-true, not-true, not-false}
+use Rattle.words.proofs.BoolLaws.{true-false}
 use Rattle.image.specs.Layout.{unitBytes, mostBytes}
 use Rattle.image.specs.Chain.{goodSize}
-use Rattle.image.proofs.NumberLaws.{num-split}
-use Rattle.image.proofs.ChainLaws.{false-true, size-good, size-facts, tells-header, no-header}
+use Rattle.image.proofs.ChainLaws.{size-good, size-facts, tells-header, no-header}
 use Rattle.image.proofs.chain.header_sound.Statement.{statement}
 use Rattle.image.proofs.chain.header_sound.Tie as tie
 
@@ -20,7 +20,7 @@ returns : tie.Need-returns
 returns c =
     let s = c .before .before .before .args .image .now in
     let bad : goodSize (length s) ≡ false = sym (c .before .size-good .ensures) ∙ not-true _ (c .if1 .taken) in
-    no-header s (λ f. false-true bad (size-good (length s) (f .least) (f .most)))
+    no-header s (λ f. true-false (size-good (length s) (f .least) (f .most)) bad)
 
 -- the size is in range
 sized : (c : tie.Else1) → (unitBytes ≤ length (c .before .before .before .args .image .now)) × (length (c .before .before .before .args .image .now) ≤ mostBytes)
@@ -32,39 +32,17 @@ index-at-requires c κs = omega (arith, sized c .0)
 returns-2 : tie.Need-returns-2
 returns-2 c = no-header (c .before .before .before .before .before .args .image .now) (λ f. omega (arith, f .kinds))
 
-index-at-requires-2 : tie.Need-index-at-requires-2
-index-at-requires-2 c κs = omega (arith, sized (c .before .before) .0)
+u64-at-requires : tie.Need-u64-at-requires
+u64-at-requires c κs = omega (arith, sized (c .before .before) .0)
 
 returns-3 : tie.Need-returns-3
 returns-3 c =
-    let s = c .before .before .before .before .before .before .before .args .image .now in
-    no-header s (λ f. omega (arith, f .zeros, num-split s 8 4 4))
-
-index-at-requires-3 : tie.Need-index-at-requires-3
-index-at-requires-3 c κs = omega (arith, sized (c .before .before .before .before) .0)
-
-returns-4 : tie.Need-returns-4
-returns-4 c =
-    let s = c .before .before .before .before .before .before .before .before .args .image .now in
-    let k = sized (c .before .before .before .before .before) in
-    tells-header s _
-    (λ t. record {
-      least = k .0;
-      most = k .1;
-      kinds = omega arith;
-      zeros = omega (arith, num-split s 8 4 4, eqb-true (c .index-at3 .result) 0 t);
-    })
-    (λ f. eq-eqb (c .index-at3 .result) 0 (omega (arith, f .zeros, num-split s 8 4 4)))
+    let k = sized (c .before .before .before) in
+    tells-header (c .before .before .before .before .before .before .args .image .now) _
+    (λ t. record { least = k .0; most = k .1; kinds = omega arith; zeros = sym (c .u64-at .ensures .0) ∙ eqb-true (c .u64-at .result) 0 t })
+    (λ f. eq-eqb (c .u64-at .result) 0 (c .u64-at .ensures .0 ∙ f .zeros))
 
 pub header-sound-spec : {M : Type 1} → statement M
 header-sound-spec =
     tie.close
-    (tie.spec
-    size-good-requires
-    returns
-    index-at-requires
-    returns-2
-    index-at-requires-2
-    returns-3
-    index-at-requires-3
-    returns-4)
+    (tie.spec size-good-requires returns index-at-requires returns-2 u64-at-requires returns-3)

@@ -7,6 +7,7 @@ use native.Mathlib.Omega.{arith}
 use lib.ListN.{length}
 use borrow.Author.Tests.{not-true, not-false}
 use Rattle.words.specs.Refusals.{value}
+use Rattle.image.specs.Layout.{unitBytes}
 use Rattle.image.specs.Chain.{goodSize}
 use Rattle.image.specs.Calls.{imageOutcome}
 use Rattle.image.proofs.ChainLaws.{size-facts}
@@ -27,7 +28,7 @@ returns c =
 sized : (c : tie.Else1) → goodSize (length (c .before .before .before .args .image .now)) ≡ true
 sized c = sym (c .before .size-good .ensures) ∙ not-false _ (c .if1 .left)
 
-room : (c : tie.Else1) → 16 ≤ length (c .before .before .before .args .image .now)
+room : (c : tie.Else1) → unitBytes ≤ length (c .before .before .before .args .image .now)
 room c = size-facts (length (c .before .before .before .args .image .now)) (sized c) .0
 
 put-le-requires : tie.Need-put-le-requires
@@ -48,7 +49,7 @@ returns-2 c =
     let p2 = w .before .before .before .before in
     let p1 = p2 .before .before .before .before in
     let i = p1 .before .before in
-    ap (λ (l : List ℕ). imageOutcome (value 16) l)
+    ap (λ (l : List ℕ). imageOutcome (value unitBytes) l)
     (header-stored (i .before .before .before .args .image .now) (p1 .put-le .last .0) (p2 .put-le2 .last .0) (w .put-word .last .0) 0
     (room i) (p1 .put-le .ensures) (p2 .put-le2 .ensures) (w .put-word .ensures))
     ∙ sym (simp (sized i))

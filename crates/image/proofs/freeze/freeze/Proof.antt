@@ -4,7 +4,7 @@ use mathlib.Core.Option.{none}
 use native.Mathlib.Omega.{arith}
 use lib.ListN.{length}
 use Rattle.words.specs.Refusals.{judge}
-use Rattle.image.specs.Chain.{linkOf, endOf}
+use Rattle.image.specs.Chain.{linkOf, chainEnd}
 use Rattle.image.specs.Calls.{recordsOf, freezeTable}
 use Rattle.image.proofs.FreezeLaws.{Freezing, freezing, placed-at, freeze-refused, freeze-done}
 use borrow.Author.Needs.{needs}
@@ -24,7 +24,7 @@ enum-known-link c = search needs
 known : (c : tie.After-known-told2)
     → (judge (freezeTable (c .before .before .before .before .before .before .before .args .h) (length (c .before .before .before .before .before .before .before .args .words .now)) (c .before .before .before .before .before .before .before .args .image .now) (c .before .before .before .before .before .before .before .args .label)) ≡ none)
     × (c .before .link .given .0 .0 ≡ linkOf (recordsOf (c .before .before .before .before .before .before .before .args .image .now)))
-    × (c .before .link .given .0 .1 .0 ≡ endOf (c .before .before .before .before .before .before .before .args .image .now) (recordsOf (c .before .before .before .before .before .before .before .args .image .now)))
+    × (c .before .link .given .0 .1 .0 ≡ chainEnd (c .before .before .before .before .before .before .before .args .image .now) (recordsOf (c .before .before .before .before .before .before .before .args .image .now)))
 known c =
     let a = c .before .before .before .before .before .before .before .args in
     placed-at (a .h) (length (a .words .now)) (a .image .now) (a .label) (c .before .before .before .check-freeze .result) _ _

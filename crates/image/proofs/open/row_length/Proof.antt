@@ -3,20 +3,21 @@ use native.Mathlib.Omega.{arith}
 use borrow.Author.Needs.{needs}
 use borrow.Author.Tests.{lt-leb, le-leb}
 use lib.ListN.{length}
+use Rattle.image.specs.Layout.{headBytes}
 use Rattle.image.specs.Calls.{heldLength}
 use Rattle.image.proofs.open.row_length.Statement.{statement}
 use Rattle.image.proofs.open.row_length.Tie as tie
 
 returns : tie.Need-returns
 unfolding heldLength
-returns c = simp (lt-leb 16 (length (c .before .before .args .part .now)) (c .if1 .taken))
+returns c = simp (lt-leb headBytes (length (c .before .before .args .part .now)) (c .if1 .taken))
 
-index-at-requires : tie.Need-index-at-requires
-index-at-requires c κs = search needs
+length-at-requires : tie.Need-length-at-requires
+length-at-requires c κs = search needs
 
 returns-2 : tie.Need-returns-2
 unfolding heldLength
-returns-2 c = simp (le-leb 16 (length (c .before .before .before .args .part .now)) (omega arith)) (c .index-at .ensures .0)
+returns-2 c = simp (le-leb headBytes (length (c .before .before .before .args .part .now)) (omega arith)) (c .length-at .ensures .0)
 
 pub row-length-spec : {M : Type 1} → statement M
-row-length-spec = tie.close (tie.spec returns index-at-requires returns-2)
+row-length-spec = tie.close (tie.spec returns length-at-requires returns-2)

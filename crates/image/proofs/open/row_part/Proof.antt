@@ -1,6 +1,7 @@
 -- `image::open::row_part` meets its contract. Assumes nothing.
 use mathlib.Core.Path.{_∙_}
-use Rattle.image.proofs.ChainLaws.{opened-record, part-refused, part-opened}
+use Rattle.image.proofs.ChainLaws.{part-refused, part-opened}
+use Rattle.image.proofs.RowLaws.{row-inside}
 use borrow.Author.Needs.{needs}
 use Rattle.image.proofs.open.row_part.Statement.{statement}
 use Rattle.image.proofs.open.row_part.Tie as tie
@@ -25,8 +26,7 @@ returns c =
 record-part-requires : tie.Need-record-part-requires
 record-part-requires c κs =
     let a = c .before .before .before .before .before .args in
-    let f = opened-record (a .image .now) (a .label) _ _ (c .before .before .before .open-row .ensures) (c .before .o .given .1) in
-    (f .room, f .inside)
+    row-inside (a .image .now) (a .label) _ _ (c .before .before .before .open-row .ensures) (c .before .o .given .1)
 
 returns-2 : tie.Need-returns-2
 returns-2 c =

@@ -36,7 +36,8 @@ good c = sym (c .before .check-part .ensures) ∙ not-false _ (c .if1 .left)
 returns-2 : tie.Need-returns-2
 returns-2 c =
     let a = c .before .before .before .before .args in
-    promise-refused (table (a .part .now) (a .n) (a .v) (a .i)) refused _ _ _ (Refuse BadValue) BadValue (simp (good (c .before), lt-ltb 1 (a .v) (c .if2 .taken))) refl
+    promise-refused (table (a .part .now) (a .n) (a .v) (a .i)) refused _ _ _ (Refuse BadValue) BadValue
+    (simp (good (c .before), lt-ltb 1 (a .v) (c .if2 .taken))) refl
 
 returns-3 : tie.Need-returns-3
 returns-3 c =

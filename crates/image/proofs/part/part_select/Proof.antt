@@ -13,7 +13,7 @@ use Rattle.words.specs.Calls.{valueLine, absentLine}
 use Rattle.words.specs.declared.refusal.Refusal.the-variants.{Unsound, BadValue, NotFound}
 use Rattle.words.specs.declared.refusal.Verdict.the-variants.{Refuse}
 use Rattle.counters.proofs.PromiseLaws.{promise-refused}
-use Rattle.image.specs.Layout.{sizeOf}
+use Rattle.image.specs.Layout.{headBytes, mostRow, sizeOf}
 use Rattle.image.specs.Calls.{goodPart, partLine}
 use Rattle.image.proofs.PartLaws.{good-part, select-over, select-absent, select-done, select-past}
 use Rattle.image.proofs.part.part_select.Statement.{statement}
@@ -39,7 +39,8 @@ good c = sym (c .before .check-part .ensures) ∙ not-false _ (c .if1 .left)
 returns-2 : tie.Need-returns-2
 returns-2 c =
     let a = c .before .before .before .before .args in
-    promise-refused (table (a .part .now) (a .n) (a .v) (a .k)) refused _ _ _ (Refuse BadValue) BadValue (simp (good (c .before), lt-ltb 1 (a .v) (c .if2 .taken))) refl
+    promise-refused (table (a .part .now) (a .n) (a .v) (a .k)) refused _ _ _ (Refuse BadValue) BadValue
+    (simp (good (c .before), lt-ltb 1 (a .v) (c .if2 .taken))) refl
 
 returns-3 : tie.Need-returns-3
 returns-3 c =
@@ -48,7 +49,8 @@ returns-3 c =
     (simp (good (c .before .before), le-ltb 1 (a .v) (c .before .if2 .left), le-leb (a .n) (a .k) (c .if3 .taken))) refl
 
 -- what the check leaves
-known : (c : tie.Else3) → let a = c .before .before .before .before .before .args in (16 ≤ length (a .part .now)) × (length (a .part .now) ≡ sizeOf (a .n)) × (a .n ≤ 134217728)
+known : (c : tie.Else3) → let a = c .before .before .before .before .before .args in
+    (headBytes ≤ length (a .part .now)) × (length (a .part .now) ≡ sizeOf (a .n)) × (a .n ≤ mostRow)
 known c = let a = c .before .before .before .before .before .args in good-part (a .part .now) (a .n) (good (c .before .before))
 
 -- the table passes
@@ -57,15 +59,16 @@ passed c =
     let a = c .before .before .before .before .before .args in
     simp (good (c .before .before), le-ltb 1 (a .v) (c .before .if2 .left), lt-leb (a .n) (a .k) (c .if3 .left))
 
-part-ones-requires : tie.Need-part-ones-requires
-part-ones-requires c κs = known c .0
+ones-at-requires : tie.Need-ones-at-requires
+ones-at-requires c κs = known c .0
 
 returns-4 : tie.Need-returns-4
 returns-4 c =
     let e = c .before .before in
     let a = e .before .before .before .before .before .args in
-    let total = c .before .part-ones in
-    select-over (table (a .part .now) (a .n) (a .v) (a .k)) (a .part .now) (a .n) (a .v) (a .k) (total .result) (passed e) (e .before .if2 .left) (known e .2) (total .ensures .0) (c .if4 .taken)
+    let total = c .before .ones-at in
+    select-over (table (a .part .now) (a .n) (a .v) (a .k)) (a .part .now) (a .n) (a .v) (a .k) (total .result) (passed e) (e .before .if2 .left)
+    (known e .2) (total .ensures .0) (c .if4 .taken)
 
 of-value-requires : tie.Need-of-value-requires
 of-value-requires c κs = search needs
@@ -74,8 +77,9 @@ returns-5 : tie.Need-returns-5
 returns-5 c =
     let e = c .before .before .before .before in
     let a = e .before .before .before .before .before .args in
-    let total = c .before .before .before .part-ones in
-    select-absent (table (a .part .now) (a .n) (a .v) (a .k)) (a .part .now) (a .n) (a .v) (a .k) (total .result) (passed e) (e .before .if2 .left) (known e .2) (total .ensures .0)
+    let total = c .before .before .before .ones-at in
+    select-absent (table (a .part .now) (a .n) (a .v) (a .k)) (a .part .now) (a .n) (a .v) (a .k) (total .result) (passed e) (e .before .if2 .left)
+    (known e .2) (total .ensures .0)
     (omega (arith, c .before .of-value .ensures, c .if5 .taken))
 
 part-position-requires : tie.Need-part-position-requires
@@ -87,18 +91,20 @@ returns-6 : tie.Need-returns-6
 returns-6 c =
     let e = c .before .before .before .before .before .before in
     let a = e .before .before .before .before .before .args in
-    let total = c .before .before .before .before .before .part-ones in
+    let total = c .before .before .before .before .before .ones-at in
     let place = c .before .part-position in
-    select-done (table (a .part .now) (a .n) (a .v) (a .k)) (a .part .now) (a .n) (a .v) (a .k) (total .result) (passed e) (e .before .if2 .left) (known e .2) (total .ensures .0) (place .result)
+    select-done (table (a .part .now) (a .n) (a .v) (a .k)) (a .part .now) (a .n) (a .v) (a .k) (total .result) (passed e) (e .before .if2 .left)
+    (known e .2) (total .ensures .0) (place .result)
     (omega (arith, c .before .before .before .of-value .ensures, c .before .before .if5 .left)) (place .ensures .1) (c .if6 .taken)
 
 returns-7 : tie.Need-returns-7
 returns-7 c =
     let e = c .before .before .before .before .before .before in
     let a = e .before .before .before .before .before .args in
-    let total = c .before .before .before .before .before .part-ones in
+    let total = c .before .before .before .before .before .ones-at in
     let place = c .before .part-position in
-    select-past (table (a .part .now) (a .n) (a .v) (a .k)) (a .part .now) (a .n) (a .v) (a .k) (total .result) (passed e) (e .before .if2 .left) (known e .2) (total .ensures .0) (place .result)
+    select-past (table (a .part .now) (a .n) (a .v) (a .k)) (a .part .now) (a .n) (a .v) (a .k) (total .result) (passed e) (e .before .if2 .left)
+    (known e .2) (total .ensures .0) (place .result)
     (omega (arith, c .before .before .before .of-value .ensures, c .before .before .if5 .left)) (place .ensures .1) (c .if6 .left)
 
 pub part-select-spec : {M : Type 1} → statement M
@@ -109,7 +115,7 @@ part-select-spec =
     returns
     returns-2
     returns-3
-    part-ones-requires
+    ones-at-requires
     returns-4
     of-value-requires
     returns-5

@@ -3,7 +3,7 @@ use mathlib.Core.Path.{_≡_, refl}
 use Prim.Native.Nat.{ℕ, _+_, _-_, _*_, _≤_, _<_}
 use native.Mathlib.Omega.{arith}
 use lib.ListN.{length, getD, length-set}
-use Rattle.words.proofs.Sums.{set-more}
+use Rattle.words.proofs.Sums.{stored-more}
 use Rattle.image.specs.Bytes.{num}
 use Rattle.image.proofs.PartLaws.{words-bit}
 use Rattle.image.proofs.reading.block_at.Statement.{statement}
@@ -45,14 +45,15 @@ loop-again c =
     let a = c .before .before .before .before .args in (
       simp length-set (l .inv .0),
       omega arith,
-      set-more (λ d. num (a .part .now) (a .at + 8 * d) 8) (l .block) (l .j) (c .u64-at .result) (omega arith) (l .inv .2) (c .u64-at .ensures .0),
+      stored-more (λ d. num (a .part .now) (a .at + 8 * d) 8) (l .block) (l .j) (c .u64-at .result) (omega arith) (l .inv .2) (c .u64-at .ensures .0),
     )
 
 returns : tie.Need-returns Inv-loop μ-loop
 returns c =
     let l = c .before .loop in
     let a = c .before .before .before .args in
-    (l .inv .0, words-bit (a .part .now) (l .block) (a .at) (λ i. omega (arith, c .before .before .shared-slice-known .given i)) (λ d h. l .inv .2 d (omega arith)))
+    let small = c .before .before .shared-slice-known in
+    (l .inv .0, words-bit (a .part .now) (l .block) (a .at) (λ i. omega (arith, small .given i)) (λ d h. l .inv .2 d (omega arith)))
 
 pub block-at-spec : {M : Type 1} → statement M
 block-at-spec =

@@ -18,8 +18,8 @@ shr-result : tie.Need-shr-result
 shr-result c = search needs
 
 -- a field, and its bound
-field : (v j r : ℕ) → r ≡ blockField v j → (r ≡ blockField v j) × (r < 4096)
-field v j r e = (e, subst (λ (x : ℕ). x < 4096) (sym e) (block-lt v j))
+field : (v j r : ℕ) → r ≡ blockField v j → (r ≡ blockField v j) × (r < 2 ^ 12)
+field v j r e = (e, subst (λ (x : ℕ). x < 2 ^ 12) (sym e) (block-lt v j))
 
 returns : tie.Need-returns
 returns c =

@@ -27,7 +27,8 @@ mul-lo c = omega arith
 loop-holds : tie.Need-loop-holds Inv-loop μ-loop
 loop-holds c =
     let a = c .before .before .args in
-    (omega arith, omega arith, halved-blocks (entryValues (a .part .now) (a .v)) (a .count) (a .k) (c .superblock-with .result) (c .superblock-with .ensures .1))
+    let b = c .superblock-with in
+    (omega arith, omega arith, halved-blocks (entryValues (a .part .now) (a .v)) (a .count) (a .k) (b .result) (b .ensures .1))
 
 sub-t : tie.Need-sub-t Inv-loop μ-loop
 sub-t c = omega arith

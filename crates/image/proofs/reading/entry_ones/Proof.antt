@@ -34,8 +34,9 @@ returns c =
     let low = c .before .before .u64-at in
     let high = c .before .u64-at2 in
     let e : low .result % 2 ^ 44 + c .block-field .result ≡ entryOnes (a .part .now) (a .m) =
-    entry-ones-is (a .part .now) (a .m) (low .result) (high .result) (c .block-field .result) (low .ensures .0) (high .ensures .0) (c .block-field .ensures .0) in
-    (e, subst (λ (x : ℕ). x < 17592186048512) (sym e) (entry-ones-lt (a .part .now) (a .m)))
+    entry-ones-is (a .part .now) (a .m) (low .result) (high .result) (c .block-field .result) (low .ensures .0) (high .ensures .0)
+    (c .block-field .ensures .0) in
+    (e, subst (λ (x : ℕ). x < 2 ^ 44 + 2 ^ 12) (sym e) (entry-ones-lt (a .part .now) (a .m)))
 
 pub entry-ones-spec : {M : Type 1} → statement M
 entry-ones-spec =

@@ -4,7 +4,7 @@ use Prim.Native.Nat.{ℕ, _+_, _-_, _*_, _/_, _≤_}
 use native.Mathlib.Omega.{arith}
 use borrow.Author.Needs.{needs}
 use Rattle.words.specs.Bits.{bitAt, ones}
-use Rattle.words.proofs.Sums.{ones-zero, ones-le}
+use Rattle.words.proofs.Sums.{sum-zero, ones-le}
 use Rattle.words.proofs.WordLaws.{bitAt-le}
 use Rattle.image.proofs.PartLaws.{entry-inside, bytes-inside, bitsOf, right-indexed, ones-there}
 use Rattle.image.proofs.reading.part_ones_before.Statement.{statement}
@@ -14,7 +14,7 @@ returns : tie.Need-returns
 returns c =
     let a = c .before .before .args in
     let e : 0 ≡ a .i = omega arith in
-    (omega arith, λ right. sym (ones-zero (bitsOf (a .part .now) (a .n))) ∙ ap (ones (bitsOf (a .part .now) (a .n))) e)
+    (omega arith, λ right. sym (sum-zero (bitsOf (a .part .now) (a .n))) ∙ ap (ones (bitsOf (a .part .now) (a .n))) e)
 
 sub-m : tie.Need-sub-m
 sub-m c = search needs

@@ -35,7 +35,8 @@ low c right =
     let a = c .before .before .before .args in
     let m = c .before .block-with in
     subst (λ (x : ℕ). x ≤ a .k) (sym (c .entry-values .ensures))
-    (told-le _ _ _ _ _ _ (right-indexed (a .part .now) (a .n) (omega arith) right) (m .result) (a .v) (a .k) ((a .n + 511) / 512) (omega arith) (omega (arith, m .ensures .0)) (m .ensures .1))
+    (told-le _ _ _ _ _ _ (right-indexed (a .part .now) (a .n) (omega arith) right) (m .result) (a .v) (a .k) ((a .n + 511) / 512)
+    (omega arith) (omega (arith, m .ensures .0)) (m .ensures .1))
 
 returns : tie.Need-returns
 returns c =
@@ -55,7 +56,8 @@ block-at-requires : tie.Need-block-at-requires
 block-at-requires c κs =
     let a = c .before .before .before .before .before .args in
     let m = c .before .before .before .block-with in
-    omega (arith, c .bits-start .ensures .0, m .ensures .0, bytes-inside 4096 (omega arith) (a .n) 16 512 (64 * m .result + 64) refl (omega (arith, m .ensures .0)))
+    let inside = bytes-inside 4096 (omega arith) (a .n) 16 512 (64 * m .result + 64) refl (omega (arith, m .ensures .0)) in
+    omega (arith, c .bits-start .ensures .0, m .ensures .0, inside)
 
 slice-aggregate-block-select : tie.Need-slice-aggregate-block-select
 slice-aggregate-block-select c = search needs
@@ -77,7 +79,8 @@ place c right few =
     let block = c .before .before .block-at in
     let inside : m .result < (a .n + 511) / 512 = m .ensures .0 in
     place-there _ _ _ _ _ _ (right-indexed (a .part .now) (a .n) (omega arith) right) (m .result) (block .result) _ (omega arith)
-    (ap (λ (s : ℕ). s + 64 * m .result) (c .before .before .before .bits-start .ensures .0)) (block .ensures .1) (a .v) (a .k) (c .block-select .result) (omega arith)
+    (ap (λ (s : ℕ). s + 64 * m .result) (c .before .before .before .bits-start .ensures .0)) (block .ensures .1)
+    (a .v) (a .k) (c .block-select .result) (omega arith)
     (subst (λ (x : ℕ). x ≤ a .k) (said .ensures) (low (c .before .before .before .before .before) right))
     (told-above _ _ _ _ _ _ (right-indexed (a .part .now) (a .n) (omega arith) right) (m .result) (a .v) (a .k) (omega arith) inside (m .ensures .1) few)
     few
@@ -95,7 +98,8 @@ add-position : tie.Need-add-position
 add-position c =
     let a = c .before .before .before .before .before .before .before .before .before .args in
     let block = c .before .before .before .block-at in
-    omega (arith, c .before .block-select .ensures, select-le (bitAt (block .result)) 512 (a .v) (a .k - c .before .before .before .before .before .before .entry-values .result))
+    let said = c .before .before .before .before .before .before .entry-values in
+    omega (arith, c .before .block-select .ensures, select-le (bitAt (block .result)) 512 (a .v) (a .k - said .result))
 
 returns-3 : tie.Need-returns-3
 returns-3 c = (omega arith, λ right few. place (c .before .before) right few .2)

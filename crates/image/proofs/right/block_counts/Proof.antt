@@ -1,26 +1,26 @@
 -- `image::right::block_counts` meets its contract. The invariant: the blocks before j are counted, and `sum` is their ones. Assumes nothing.
-use mathlib.Core.Path.{_≡_, refl, sym}
-use Prim.Native.Nat.{ℕ, _+_, _-_, _*_, _/_, _%_, _≤_, _<_}
+use mathlib.Core.Path.{_≡_, refl}
+use Prim.Native.Nat.{_+_, _-_, _*_, _/_, _%_}
 use native.Mathlib.Omega.{arith}
-use lib.ListN.{length, getD, length-set}
+use lib.ListN.{getD}
 use borrow.Author.Needs.{needs}
 use Rattle.words.specs.Bits.{ones}
-use Rattle.words.proofs.Sums.{ones-zero, ones-le, set-more}
+use Rattle.words.proofs.Sums.{ones-le}
 use Rattle.words.proofs.BitLaws.{bit-le}
 use Rattle.image.specs.Bytes.{bitFrom}
+use Rattle.image.proofs.EntryLaws.{Counting, counting-none, counting-more, counting-done}
 use Rattle.image.proofs.RightLaws.{block-more}
 use Rattle.image.proofs.right.block_counts.Statement.{statement}
 use Rattle.image.proofs.right.block_counts.Tie as tie
 
 abbrev Inv-loop : tie.InvT-loop
-Inv-loop part at counts₀ sum₀ j₀ counts sum j =
-    (j ≤ 8) × (length counts ≡ 8) × (sum ≡ ones (bitFrom part at) (512 * j)) × ((i : ℕ) → i < j → getD counts i 0 ≡ ones (bitFrom part at) (512 * (i + 1)))
+Inv-loop part at counts₀ sum₀ j₀ counts sum j = Counting (bitFrom part at) counts sum j
 
 abbrev μ-loop : tie.MeasureT-loop
 μ-loop part at counts₀ sum₀ j₀ counts sum j = 8 - j
 
 loop-holds : tie.Need-loop-holds Inv-loop μ-loop
-loop-holds c = let a = c .before .args in (omega arith, refl, sym (ones-zero (bitFrom (a .part .now) (a .at))), λ i l. absurd (omega arith))
+loop-holds c = counting-none _ _ refl
 
 mul-block-at : tie.Need-mul-block-at Inv-loop μ-loop
 mul-block-at c = omega arith
@@ -45,7 +45,7 @@ next c =
     let l = c .before .before .before .before .loop in
     let a = c .before .before .before .before .before .before .args in
     let block = c .before .before .block-at in
-    block-more (a .part .now) (block .result) (a .at) (l .j) (l .sum) (c .block-ones .result) (block .ensures .1) (l .inv .2) (c .block-ones .ensures)
+    block-more (a .part .now) (block .result) (a .at) (l .j) (l .sum) (c .block-ones .result) (block .ensures .1) (l .inv .count) (c .block-ones .ensures)
 
 add-sum : tie.Need-add-sum Inv-loop μ-loop
 add-sum c =
@@ -68,17 +68,12 @@ loop-less c = omega arith
 loop-again : tie.Need-loop-again Inv-loop μ-loop
 loop-again c =
     let l = c .before .before .before .before .loop in
-    let a = c .before .before .before .before .before .before .args in (
-      omega arith,
-      simp length-set (l .inv .1),
-      next c,
-      set-more (λ i. ones (bitFrom (a .part .now) (a .at)) (512 * (i + 1))) (l .counts) (l .j) _ (omega arith) (l .inv .3) (next c),
-    )
+    counting-more _ (l .counts) (l .sum) (l .j) _ (l .inv) (c .before .before .before .loop-test .taken) (next c)
 
 returns : tie.Need-returns Inv-loop μ-loop
 returns c =
     let l = c .before .loop in
-    (l .inv .1, λ j h. l .inv .3 j (omega arith))
+    counting-done _ (l .counts) (l .sum) (l .j) (l .inv) (c .loop-test .left)
 
 pub block-counts-spec : {M : Type 1} → statement M
 block-counts-spec =

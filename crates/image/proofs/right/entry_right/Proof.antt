@@ -20,7 +20,7 @@ returns c =
     let h = c .before .before .before .entry-halves in
     let a = c .before .before .before .before .before .args in
     sym (ne-eqb _ _ (λ e. c .if1 .taken
-    (same-halves (a .part .now) (a .at) (h .result .low) (h .result .high) (low .result) _ _ (low .ensures .0) refl (h .ensures .0) (omega arith) (h .ensures .1) e .0)))
+    (same-halves (a .part .now) (a .at) (h .result .low) (h .result .high) (low .result) _ _ (low .ensures .0) refl (h .ensures) (omega arith) e .0)))
 
 add-u64-at : tie.Need-add-u64-at
 add-u64-at c = search needs
@@ -35,8 +35,10 @@ returns-2 c =
     let h = c .before .before .before .before .before .entry-halves in
     let a = c .before .before .before .before .before .before .before .args in
     decides _ _ (eqb-true _ _) (eq-eqb _ _)
-    (λ t. same-halves (a .part .now) (a .at) (h .result .low) (h .result .high) (low .result) (high .result) _ (low .ensures .0) (high .ensures .0) (h .ensures .0) (omega arith) (h .ensures .1) (eqb-true _ _ t) .1)
-    (λ e. eq-eqb _ _ (halves-same (a .part .now) (a .at) (h .result .low) (h .result .high) (low .result) (high .result) _ (low .ensures .0) (high .ensures .0) (h .ensures .0) (c .before .before .if1 .left) e))
+    (λ t. same-halves (a .part .now) (a .at) (h .result .low) (h .result .high) (low .result) (high .result) _ (low .ensures .0) (high .ensures .0)
+    (h .ensures) (omega arith) (eqb-true _ _ t) .1)
+    (λ e. eq-eqb _ _ (halves-same (a .part .now) (a .at) (h .result .low) (h .result .high) (low .result) (high .result) _ (low .ensures .0) (high .ensures .0)
+    (h .ensures) (c .before .before .if1 .left) e))
 
 pub entry-right-spec : {M : Type 1} → statement M
 entry-right-spec =

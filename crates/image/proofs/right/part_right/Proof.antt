@@ -2,7 +2,7 @@
 -- before it. Assumes nothing.
 use mathlib.Core.Path.{ap, subst}
 use mathlib.Core.Bool.{Bool}
-use Prim.Native.Nat.{ℕ, _+_, _-_, _*_, _<_}
+use Prim.Native.Nat.{ℕ, _+_, _-_, _*_}
 use native.Mathlib.Omega.{arith}
 use lib.ListN.{getD}
 use borrow.Author.Tests.{not-true, not-false}
@@ -10,7 +10,8 @@ use Rattle.counters.specs.Working.{Decides}
 use Rattle.image.specs.Layout.{superblocksOf}
 use Rattle.image.specs.Reading.{PaddingZero}
 use Rattle.image.proofs.PartLaws.{good-part}
-use Rattle.image.proofs.RightLaws.{no-right, SuperblocksRead, read-none, ends-lt, read-more, read-wrong, read-le, read-done}
+use Rattle.image.proofs.RightLaws.{no-right, SuperblocksRead, read-none, read-le, read-done}
+use Rattle.image.proofs.RightLaws.{SuperblockCounted, read-counted, read-fit, read-more, read-wrong}
 use Rattle.image.proofs.right.part_right.Statement.{statement}
 use Rattle.image.proofs.right.part_right.Tie as tie
 
@@ -68,52 +69,44 @@ mul-entry-right c = omega arith
 add-entry-right : tie.Need-add-entry-right Inv-loop μ-loop
 add-entry-right c = omega arith
 
--- superblock e lies in the row
-inside : (c : tie.After-block-counts Inv-loop μ-loop)
-    → c .before .before .loop .e < superblocksOf (c .before .before .before .before .before .before .before .before .args .n)
-inside c = omega arith
+-- the ones of superblock e are counted
+counted : (c : tie.After-block-counts Inv-loop μ-loop)
+    → let a = c .before .before .before .before .before .before .before .before .args in
+    let l = c .before .before .loop in
+    SuperblockCounted (a .part .now) (a .n) (l .e) (l .sum) (c .block-counts .result)
+counted c =
+    let a = c .before .before .before .before .before .before .before .before .args in
+    let l = c .before .before .loop in
+    read-counted (a .part .now) (a .n) (l .e) (l .sum) (c .block-counts .result) _ (l .inv) (omega arith)
+    (ap (λ (s : ℕ). s + 512 * l .e) (c .before .before .before .before .bits-start .ensures .0)) (c .block-counts .ensures)
 
 entry-right-requires : tie.Need-entry-right-requires Inv-loop μ-loop
 entry-right-requires c κs =
     let top = c .before .before .before .before .before .before .before .before in
     let a = top .args in
     let l = c .before .before .loop in
-    let counts = c .block-counts in
-    let k = good-part (a .part .now) (a .n) (top .pre) in (
-      omega (arith, k .1),
-      omega (arith, read-le (a .part .now) (a .n) (l .e) (l .sum) (l .inv)),
-      counts .ensures .0,
-      ends-lt (a .part .now) (a .n) (l .e) (l .sum) (counts .result) _ (l .inv) (inside c)
-          (ap (λ (s : ℕ). s + 512 * l .e) (c .before .before .before .before .bits-start .ensures .0)) (counts .ensures .1),
-    )
+    let k = good-part (a .part .now) (a .n) (top .pre) in
+    (omega (arith, k .1), read-fit _ _ _ _ _ (counted c) (omega (arith, read-le (a .part .now) (a .n) (l .e) (l .sum) (l .inv))))
 
 returns-2 : tie.Need-returns-2 Inv-loop μ-loop
 returns-2 c =
     let b = c .before .before in
     let top = b .before .before .before .before .before .before .before .before in
-    let a = top .args in
-    let l = b .before .before .loop in
-    let counts = b .block-counts in
     let right = c .before .entry-right in
-    no-right (a .part .now) (a .n) (top .pre) (λ i. omega (arith, b .before .before .before .before .before .before .before .shared-slice-known .given i))
-    (read-wrong (a .part .now) (a .n) (l .e) (l .sum) (counts .result) _ (l .inv) (inside b)
-    (ap (λ (s : ℕ). s + 512 * l .e) (b .before .before .before .before .bits-start .ensures .0)) (counts .ensures .1) (right .result) (right .ensures) (c .if2 .taken))
+    no-right (top .args .part .now) (top .args .n) (top .pre)
+    (λ i. omega (arith, b .before .before .before .before .before .before .before .shared-slice-known .given i))
+    (read-wrong _ _ _ _ _ (counted b) (right .result) (right .ensures) (c .if2 .taken))
 
 array-read-sum : tie.Need-array-read-sum Inv-loop μ-loop
 array-read-sum c = omega arith
 
 -- the entry of superblock e is right
 next : (c : tie.Else2 Inv-loop μ-loop)
-    → let b = c .before .before in let a = b .before .before .before .before .before .before .before .before .args in let l = b .before .before .loop in
-    SuperblocksRead (a .part .now) (a .n) (l .e + 1) (l .sum + getD (b .block-counts .result) 7 0)
-next c =
-    let b = c .before .before in
+    → let b = c .before .before in
     let a = b .before .before .before .before .before .before .before .before .args in
     let l = b .before .before .loop in
-    let counts = b .block-counts in
-    let right = c .before .entry-right in
-    read-more (a .part .now) (a .n) (l .e) (l .sum) (counts .result) _ (l .inv) (inside b)
-    (ap (λ (s : ℕ). s + 512 * l .e) (b .before .before .before .before .bits-start .ensures .0)) (counts .ensures .1) (right .result) (right .ensures) (c .if2 .left)
+    SuperblocksRead (a .part .now) (a .n) (l .e + 1) (l .sum + getD (b .block-counts .result) 7 0)
+next c = let right = c .before .entry-right in read-more _ _ _ _ _ (counted (c .before .before)) (right .result) (right .ensures) (c .if2 .left)
 
 add-sum : tie.Need-add-sum Inv-loop μ-loop
 add-sum c =
@@ -131,8 +124,8 @@ loop-less c = omega arith
 loop-again : tie.Need-loop-again Inv-loop μ-loop
 loop-again c = next c
 
-part-ones-requires : tie.Need-part-ones-requires Inv-loop μ-loop
-part-ones-requires c κs =
+ones-at-requires : tie.Need-ones-at-requires Inv-loop μ-loop
+ones-at-requires c κs =
     let top = c .before .before .before .before .before .before .before in
     good-part (top .args .part .now) (top .args .n) (top .pre) .0
 
@@ -141,8 +134,9 @@ returns-3 c =
     let top = c .before .before .before .before .before .before .before .before in
     let a = top .args in
     let l = c .before .before .loop in
-    read-done (a .part .now) (a .n) (l .e) (l .sum) (c .part-ones .result) (top .pre)
-    (λ i. omega (arith, c .before .before .before .before .before .before .before .shared-slice-known .given i)) (l .inv) (omega arith) (c .part-ones .ensures .0)
+    read-done (a .part .now) (a .n) (l .e) (l .sum) (c .ones-at .result) (top .pre)
+    (λ i. omega (arith, c .before .before .before .before .before .before .before .shared-slice-known .given i)) (l .inv) (omega arith)
+    (c .ones-at .ensures .0)
 
 pub part-right-spec : {M : Type 1} → statement M
 part-right-spec =
@@ -167,5 +161,5 @@ part-right-spec =
     add-e
     loop-less
     loop-again
-    part-ones-requires
+    ones-at-requires
     returns-3)

@@ -1,12 +1,9 @@
 -- `image::row::row_get` meets its contract: the promise of `part_get`, carried over to the label's row. Assumes nothing.
-use mathlib.Core.Path.{ap, _∙_}
+use mathlib.Core.Path.{_∙_}
 use mathlib.Core.List.{[], _∷_}
-use native.Mathlib.Omega.{arith}
-use lib.ListN.{length}
 use Rattle.words.specs.Calls.{belowLine}
 use Rattle.image.specs.Calls.{rowLength}
-use Rattle.image.proofs.ChainLaws.{RecordFacts, opened-record}
-use Rattle.image.proofs.RowLaws.{part-long, row-refused, row-held, row-look}
+use Rattle.image.proofs.RowLaws.{row-refused, row-inside, row-room, row-held, row-look}
 use borrow.Author.Needs.{needs}
 use Rattle.image.proofs.row.row_get.Statement.{statement}
 use Rattle.image.proofs.row.row_get.Tie as tie
@@ -23,19 +20,19 @@ enum-told c = search needs
 returns : tie.Need-returns
 returns c =
     let a = c .before .before .before .before .args in
-    row-refused (a .image .now) (a .label) _ _ (belowLine (rowLength (a .image .now) (a .label)) (a .i) ∷ []) (c .before .before .open-row .ensures) (c .enum-told .given .1) _
-
--- the record at the place that the opening gave
-known : (c : tie.After-known-told) → RecordFacts (c .before .before .before .before .before .args .image .now) (c .before .o .given .0 .0)
-known c = let a = c .before .before .before .before .before .args in opened-record (a .image .now) (a .label) _ _ (c .before .before .before .open-row .ensures) (c .before .o .given .1)
+    row-refused (a .image .now) (a .label) _ _ (belowLine (rowLength (a .image .now) (a .label)) (a .i) ∷ [])
+    (c .before .before .open-row .ensures) (c .enum-told .given .1) _
 
 record-part-requires : tie.Need-record-part-requires
-record-part-requires c κs = (known c .room, known c .inside)
+record-part-requires c κs =
+    let a = c .before .before .before .before .before .args in
+    row-inside (a .image .now) (a .label) _ _ (c .before .before .before .open-row .ensures) (c .before .o .given .1)
 
-index-at-requires : tie.Need-index-at-requires
-index-at-requires c κs =
+length-at-requires : tie.Need-length-at-requires
+length-at-requires c κs =
     let a = c .before .before .before .before .before .before .args in
-    omega (arith, ap length (c .record-part .ensures), part-long (a .image .now) (c .before .before .o .given .0 .0) (known (c .before)))
+    row-room (a .image .now) (a .label) _ _ (c .before .before .before .before .open-row .ensures) (c .before .before .o .given .1)
+    _ (c .record-part .ensures)
 
 part-get-requires : tie.Need-part-get-requires
 part-get-requires c κs = search needs
@@ -43,10 +40,10 @@ part-get-requires c κs = search needs
 returns-2 : tie.Need-returns-2
 returns-2 c =
     let a = c .before .before .before .before .before .before .before .before .args in
-    let held =
-    row-held (a .image .now) (a .label) _ _ _ _ (c .before .before .before .before .before .before .open-row .ensures) (c .before .before .before .before .o .given .1)
-    (c .before .before .record-part .ensures) (c .before .index-at .ensures .0) in
-    c .part-get .ensures ∙ row-look held (a .i)
+    let row =
+    row-held (a .image .now) (a .label) _ _ (c .before .before .before .before .before .before .open-row .ensures) (c .before .before .before .before .o .given .1)
+    _ _ (c .before .before .record-part .ensures) (c .before .length-at .ensures .0) in
+    c .part-get .ensures ∙ row-look row (a .i)
 
 pub row-get-spec : {M : Type 1} → statement M
 row-get-spec =
@@ -57,6 +54,6 @@ row-get-spec =
     enum-told
     returns
     record-part-requires
-    index-at-requires
+    length-at-requires
     part-get-requires
     returns-2)

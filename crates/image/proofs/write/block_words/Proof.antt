@@ -3,7 +3,7 @@ use mathlib.Core.Path.{_≡_, refl}
 use Prim.Native.Nat.{ℕ, _+_, _-_, _≤_, _<_}
 use native.Mathlib.Omega.{arith}
 use lib.ListN.{length, getD, length-set}
-use Rattle.words.proofs.Sums.{set-more}
+use Rattle.words.proofs.Sums.{stored-more}
 use Rattle.image.proofs.write.block_words.Statement.{statement}
 use Rattle.image.proofs.write.block_words.Tie as tie
 
@@ -41,7 +41,7 @@ loop-again : tie.Need-loop-again Inv-loop μ-loop
 loop-again c =
     let l = c .before .before .loop in
     let a = c .before .before .before .args in
-    (simp length-set (l .inv .0), omega arith, set-more (λ i. getD (a .words .now) (a .w + i) 0) (l .block) (l .j) _ (omega arith) (l .inv .2) refl)
+    (simp length-set (l .inv .0), omega arith, stored-more (λ i. getD (a .words .now) (a .w + i) 0) (l .block) (l .j) _ (omega arith) (l .inv .2) refl)
 
 returns : tie.Need-returns Inv-loop μ-loop
 returns c =

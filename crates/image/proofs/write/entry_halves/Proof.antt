@@ -1,51 +1,75 @@
 -- `image::write::entry_halves` meets its contract. Assumes nothing.
-use Prim.Native.Nat.{ℕ}
-use lib.ListN.{getD}
-use lib.Dec.{lit<}
-use Rattle.image.proofs.EntryLaws.{entry-is}
+use native.Mathlib.Omega.{arith}
 use borrow.Author.Needs.{needs}
+use Rattle.image.proofs.EntryLaws.{fields-lt, halves-made}
 use Rattle.image.proofs.write.entry_halves.Statement.{statement}
 use Rattle.image.proofs.write.entry_halves.Tie as tie
 
-array-read-entry-of : tie.Need-array-read-entry-of
-array-read-entry-of c = search needs
+array-read-low : tie.Need-array-read-low
+array-read-low c = search needs
 
-array-read-entry-of-2 : tie.Need-array-read-entry-of-2
-array-read-entry-of-2 c = search needs
+add-low : tie.Need-add-low
+add-low c = search needs
 
-array-read-entry-of-3 : tie.Need-array-read-entry-of-3
-array-read-entry-of-3 c = search needs
+array-read-low-2 : tie.Need-array-read-low-2
+array-read-low-2 c = search needs
 
-array-read-entry-of-4 : tie.Need-array-read-entry-of-4
-array-read-entry-of-4 c = search needs
+add-low-2 : tie.Need-add-low-2
+add-low-2 c = omega (arith, fields-lt _ _ (c .pre))
 
-array-read-entry-of-5 : tie.Need-array-read-entry-of-5
-array-read-entry-of-5 c = search needs
+array-read-high : tie.Need-array-read-high
+array-read-high c = search needs
 
-array-read-entry-of-6 : tie.Need-array-read-entry-of-6
-array-read-entry-of-6 c = search needs
+array-read-high-2 : tie.Need-array-read-high-2
+array-read-high-2 c = search needs
 
-array-read-entry-of-7 : tie.Need-array-read-entry-of-7
-array-read-entry-of-7 c = search needs
+add-high : tie.Need-add-high
+add-high c = omega (arith, fields-lt _ _ (c .pre))
 
-entry-of-requires : tie.Need-entry-of-requires
-entry-of-requires c κs =
-    let s = c .pre .2 in
-    (c .pre .0, s 0 (lit< tt), s 1 (lit< tt), s 2 (lit< tt), s 3 (lit< tt), s 4 (lit< tt), s 5 (lit< tt), s 6 (lit< tt))
+array-read-high-3 : tie.Need-array-read-high-3
+array-read-high-3 c = search needs
+
+add-high-2 : tie.Need-add-high-2
+add-high-2 c = omega (arith, fields-lt _ _ (c .pre))
+
+array-read-high-4 : tie.Need-array-read-high-4
+array-read-high-4 c = search needs
+
+add-high-3 : tie.Need-add-high-3
+add-high-3 c = omega (arith, fields-lt _ _ (c .pre))
+
+array-read-high-5 : tie.Need-array-read-high-5
+array-read-high-5 c = search needs
+
+add-high-4 : tie.Need-add-high-4
+add-high-4 c = omega (arith, fields-lt _ _ (c .pre))
+
+array-read-high-6 : tie.Need-array-read-high-6
+array-read-high-6 c = search needs
+
+add-high-5 : tie.Need-add-high-5
+add-high-5 c = omega (arith, fields-lt _ _ (c .pre))
 
 returns : tie.Need-returns
-returns c = (entry-is (λ (j : ℕ). getD (c .before .args .t2) j 0) _ (c .before .args .sum) (c .entry-of .ensures .0), c .entry-of .ensures .1)
+returns c = halves-made _ _ (c .pre)
 
 pub entry-halves-spec : {M : Type 1} → statement M
 entry-halves-spec =
     tie.close
     (tie.spec
-    array-read-entry-of
-    array-read-entry-of-2
-    array-read-entry-of-3
-    array-read-entry-of-4
-    array-read-entry-of-5
-    array-read-entry-of-6
-    array-read-entry-of-7
-    entry-of-requires
+    array-read-low
+    add-low
+    array-read-low-2
+    add-low-2
+    array-read-high
+    array-read-high-2
+    add-high
+    array-read-high-3
+    add-high-2
+    array-read-high-4
+    add-high-3
+    array-read-high-5
+    add-high-4
+    array-read-high-6
+    add-high-5
     returns)

@@ -40,12 +40,9 @@ ones-of-requires c κs = search needs
 
 -- one word more
 next : (c : tie.After-ones-of Inv-loop μ-loop)
-    → BitsPut (bitAt (c .before .before .before .before .before .before .before .before .args .t3))
-    (8 * (c .before .before .before .before .before .before .loop .j + 1))
-    (c .before .before .before .before .before .before .before .before .args .at)
-    (c .before .before .before .before .before .before .before .before .args .bytes .now)
-    (c .before .before .before .put-word .last .0)
-    (c .before .before .before .before .before .before .loop .sum + c .ones-of .result)
+    → let l = c .before .before .before .before .before .before .loop in
+    let a = c .before .before .before .before .before .before .before .before .args in
+    BitsPut (bitAt (a .t3)) (8 * (l .j + 1)) (a .at) (a .bytes .now) (c .before .before .before .put-word .last .0) (l .sum + c .ones-of .result)
 next c =
     let l = c .before .before .before .before .before .before .loop in
     let a = c .before .before .before .before .before .before .before .before .args in

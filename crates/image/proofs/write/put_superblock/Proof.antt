@@ -11,7 +11,8 @@ use Rattle.image.proofs.write.put_superblock.Statement.{statement}
 use Rattle.image.proofs.write.put_superblock.Tie as tie
 
 abbrev Inv-loop : tie.InvT-loop
-Inv-loop bytes₀ at words w counts₀ sum₀ j₀ bytes counts sum j = (length bytes ≡ length bytes₀) × Blocks (wordBits words w) at bytes₀ bytes counts sum j
+Inv-loop bytes₀ at words w counts₀ sum₀ j₀ bytes counts sum j =
+    (length bytes ≡ length bytes₀) × Blocks (wordBits words w) at bytes₀ bytes counts sum j
 
 abbrev μ-loop : tie.MeasureT-loop
 μ-loop bytes₀ at words w counts₀ sum₀ j₀ bytes counts sum j = 8 - j
@@ -41,13 +42,11 @@ put-block-requires c κs =
 
 -- one block more
 next : (c : tie.After-slice-known2 Inv-loop μ-loop)
-    → Blocks (wordBits (c .before .before .before .before .before .before .before .before .before .args .words .now) (c .before .before .before .before .before .before .before .before .before .args .w))
-    (c .before .before .before .before .before .before .before .before .before .args .at)
-    (c .before .before .before .before .before .before .before .before .before .args .bytes .now)
-    (c .before .before .put-block .last .0)
-    (set (c .before .before .before .before .before .before .loop .counts) (c .before .before .before .before .before .before .loop .j) (c .before .before .before .before .before .before .loop .sum + c .before .before .put-block .result))
-    (c .before .before .before .before .before .before .loop .sum + c .before .before .put-block .result)
-    (c .before .before .before .before .before .before .loop .j + 1)
+    → let put = c .before .before in
+    let l = put .before .before .before .before .loop in
+    let a = put .before .before .before .before .before .before .before .args in
+    Blocks (wordBits (a .words .now) (a .w)) (a .at) (a .bytes .now) (put .put-block .last .0)
+    (set (l .counts) (l .j) (l .sum + put .put-block .result)) (l .sum + put .put-block .result) (l .j + 1)
 next c =
     let put = c .before .before in
     let words = put .before in

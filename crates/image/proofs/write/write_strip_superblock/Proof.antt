@@ -34,7 +34,7 @@ returns c =
     let a = c .before .before .before .before .before .before .before .before .before .before .before .args in
     let t = stripOf (a .words .now) (a .n) in
     let place : (p : ℕ) → 64 * (64 * a .e) + p ≡ 4096 * a .e + p = λ p. omega arith in
-    superblock-ext (wordBits (a .words .now) (64 * a .e)) (λ p. cell t (4096 * a .e + p)) (a .sum) (a .a) (a .b) (a .image .now) _ _
+    superblock-ext (wordBits (a .words .now) (64 * a .e)) (λ p. cell t (4096 * a .e + p)) (a .to) (a .image .now) _ _
     (c .before .before .before .before .write-superblock .ensures)
     (λ p l. ap (bitAt (a .words .now)) (place p) ∙ sym (strip-cell (a .words .now) (a .n) (4096 * a .e + p) (omega arith)))
 
@@ -63,7 +63,7 @@ returns-2 c =
     let t = stripOf (a .words .now) (a .n) in
     let start : (p : ℕ) → 64 * 0 + p ≡ p = λ p. omega arith in
     let place : (p : ℕ) → 64 * (64 * a .e) + p ≡ 4096 * a .e + p = λ p. omega arith in
-    superblock-ext (wordBits (tail .result) 0) (λ p. cell t (4096 * a .e + p)) (a .sum) (a .a) (a .b) (a .image .now) _ _
+    superblock-ext (wordBits (tail .result) 0) (λ p. cell t (4096 * a .e + p)) (a .to) (a .image .now) _ _
     (c .before .before .before .before .write-superblock2 .ensures)
     (λ p l. ap (bitAt (tail .result)) (start p) ∙ tail .ensures .1 p l ∙ ap (cell t) (place p))
 

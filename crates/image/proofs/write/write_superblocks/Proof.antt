@@ -24,20 +24,20 @@ superblocks-of-requires c κs = search needs
 loop-holds : tie.Need-loop-holds Inv-loop μ-loop
 loop-holds c = (omega arith, refl, refl, row-none _ _ _ _)
 
+mul-entry : tie.Need-mul-entry Inv-loop μ-loop
+mul-entry c = search needs
+
+add-entry : tie.Need-add-entry Inv-loop μ-loop
+add-entry c = search needs
+
+mul-bits : tie.Need-mul-bits Inv-loop μ-loop
+mul-bits c = search needs
+
+add-bits : tie.Need-add-bits Inv-loop μ-loop
+add-bits c = search needs
+
 slice-aggregate-write-strip-superblock : tie.Need-slice-aggregate-write-strip-superblock Inv-loop μ-loop
 slice-aggregate-write-strip-superblock c = search needs
-
-mul-write-strip-superblock : tie.Need-mul-write-strip-superblock Inv-loop μ-loop
-mul-write-strip-superblock c = search needs
-
-add-write-strip-superblock : tie.Need-add-write-strip-superblock Inv-loop μ-loop
-add-write-strip-superblock c = search needs
-
-mul-write-strip-superblock-2 : tie.Need-mul-write-strip-superblock-2 Inv-loop μ-loop
-mul-write-strip-superblock-2 c = search needs
-
-add-write-strip-superblock-2 : tie.Need-add-write-strip-superblock-2 Inv-loop μ-loop
-add-write-strip-superblock-2 c = search needs
 
 write-strip-superblock-requires : tie.Need-write-strip-superblock-requires Inv-loop μ-loop
 write-strip-superblock-requires c κs =
@@ -79,11 +79,11 @@ write-superblocks-spec =
     μ-loop
     superblocks-of-requires
     loop-holds
+    mul-entry
+    add-entry
+    mul-bits
+    add-bits
     slice-aggregate-write-strip-superblock
-    mul-write-strip-superblock
-    add-write-strip-superblock
-    mul-write-strip-superblock-2
-    add-write-strip-superblock-2
     write-strip-superblock-requires
     add-e
     loop-less

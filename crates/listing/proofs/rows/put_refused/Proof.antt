@@ -4,7 +4,7 @@ use mathlib.Core.List.{[], _∷_}
 use Prim.Native.Nat.{ℕ}
 use native.Mathlib.Omega.{arith}
 use borrow.Author.Needs.{needs}
-use Rattle.listing.specs.Text.{ended}
+use Rattle.listing.specs.Text.{endedBy}
 use Rattle.listing.proofs.DecimalLaws.{ended-long, decimal-few}
 use Rattle.listing.proofs.StoreLaws.{put-more, put-all, put-as}
 use Rattle.listing.proofs.rows.put_refused.Statement.{statement}
@@ -28,7 +28,7 @@ same-length c = search needs
 returns : tie.Need-returns
 returns c =
     put-more {xs = 114 ∷ 101 ∷ 102 ∷ 117 ∷ 115 ∷ 101 ∷ 100 ∷ 32 ∷ []} (put-all _ (c .before .before .before .before .before .before .before .put-bytes .ensures))
-    (put-as _ (ap (λ (n : ℕ). ended n 10) (c .before .before .before .number .ensures .0)) (c .before .before .put-ended .ensures))
+    (put-as _ (ap (λ (n : ℕ). endedBy n 10) (c .before .before .before .number .ensures .0)) (c .before .before .put-ended .ensures))
 
 pub put-refused-spec : {M : Type 1} → statement M
 put-refused-spec = tie.close (tie.spec put-bytes-requires number-requires put-ended-requires same-length returns)

@@ -1,58 +1,55 @@
 -- `listing::rows::put_rows` meets its contract. The invariant: the lines of the records walked are stored, and the rest of the chain starts at `at`. The
 -- measure is what is left of the image past `at`. Assumes nothing.
 use native.Mathlib.Omega.{arith}
-use borrow.Author.Needs.{needs}
 use lib.ListN.{length}
-use Rattle.image.proofs.ChainLaws.{chain-links, record-sound}
+use Rattle.image.proofs.ChainLaws.{RecordFacts, chain-facts}
 use Rattle.image.proofs.WalkLaws.{left, left-less}
 use Rattle.listing.proofs.StoreLaws.{put-length}
-use Rattle.listing.proofs.RowsLaws.{obeys-chain, Walk, Turn, walk-none, walk-turn, walk-done}
+use Rattle.listing.proofs.RowsLaws.{obeys-chain, RowsPut, rows-none, rows-record, rows-room, rows-more, rows-done}
 use Rattle.listing.proofs.rows.put_rows.Statement.{statement}
 use Rattle.listing.proofs.rows.put_rows.Tie as tie
 
 abbrev Inv-loop : tie.InvT-loop
-Inv-loop image out₀ at₀ end₀ out at end = Walk image out₀ out at end
+Inv-loop image out₀ at₀ end₀ out at end = RowsPut image out₀ out at end
 
 abbrev μ-loop : tie.MeasureT-loop
 μ-loop image out₀ at₀ end₀ out at end = left (length image) at
 
-index-at-requires : tie.Need-index-at-requires Inv-loop μ-loop
-index-at-requires c κs = omega (arith, chain-links _ _ (obeys-chain _ (c .before .before .pre .0)) .0 .least)
-
-mul-at : tie.Need-mul-at Inv-loop μ-loop
-mul-at c = search needs
+first-record-requires : tie.Need-first-record-requires Inv-loop μ-loop
+first-record-requires c κs = chain-facts _ _ (obeys-chain _ (c .before .before .pre .0)) .header .least
 
 loop-holds : tie.Need-loop-holds Inv-loop μ-loop
-loop-holds c = rw (c .index-at .ensures .0) (walk-none _ _ (c .before .before .before .pre .0))
+loop-holds c = rw (c .first-record .ensures) (rows-none _ _ (c .before .before .before .pre .0))
 
 -- the record that a turn stands at
-turn : (c : tie.In-loop Inv-loop μ-loop)
-    → Turn (c .before .before .before .before .before .args .image .now) (c .before .before .before .before .before .args .out .now) (c .before .loop .out) (c .before .loop .at) (c .before .loop .end)
-turn c = walk-turn (c .before .before .before .before .before .pre .0) (c .before .loop .inv) (c .loop-test .taken)
+known : (c : tie.In-loop Inv-loop μ-loop) → RecordFacts (c .before .before .before .before .before .args .image .now) (c .before .loop .at)
+known c = rows-record (c .before .loop .inv) (c .loop-test .taken)
 
 put-line-requires : tie.Need-put-line-requires Inv-loop μ-loop
 put-line-requires c κs =
-    let w = turn (c .before) in
-    (w .facts .room, omega (arith, w .room, put-length (c .before .before .loop .inv .put), c .before .before .before .before .before .before .pre .1))
+    let t = c .before in
+    let a = t .before .before .before .before .before in
+    let w = t .before .loop .inv in
+    (known t .room, omega (arith, rows-room w (t .loop-test .taken) (a .pre .0), put-length (w .put), a .pre .1))
 
-index-at-requires-2 : tie.Need-index-at-requires-2 Inv-loop μ-loop
-index-at-requires-2 c κs = omega (arith, turn (c .before .before .before .before) .facts .room)
-
-mul-at-2 : tie.Need-mul-at-2 Inv-loop μ-loop
-mul-at-2 c = search needs
+next-record-requires : tie.Need-next-record-requires Inv-loop μ-loop
+next-record-requires c κs = known (c .before .before .before .before) .room
 
 loop-less : tie.Need-loop-less Inv-loop μ-loop
 loop-less c =
-    rw (c .index-at2 .ensures .0) (left-less _ _ (c .before .before .before .before .before .loop-test .taken) (record-sound _ _ (turn (c .before .before .before .before .before) .facts)))
+    let t = c .before .before .before .before .before in
+    rw (c .next-record .ensures) (left-less _ _ (t .loop-test .taken) (known t))
 
 loop-again : tie.Need-loop-again Inv-loop μ-loop
-loop-again c = turn (c .before .before .before .before .before) .more _ _ _ (c .index-at2 .ensures .0) (c .before .before .before .put-line .ensures)
+loop-again c =
+    let t = c .before .before .before .before .before in
+    rows-more (t .before .loop .inv) (t .loop-test .taken) _ _ _ (c .next-record .ensures) (c .before .before .before .put-line .ensures)
 
 same-length : tie.Need-same-length Inv-loop μ-loop
 same-length c = put-length (c .before .loop .inv .put)
 
 returns : tie.Need-returns Inv-loop μ-loop
-returns c = walk-done (c .before .loop .inv) (c .loop-test .left)
+returns c = rows-done (c .before .loop .inv) (c .loop-test .left)
 
 pub put-rows-spec : {M : Type 1} → statement M
 put-rows-spec =
@@ -60,12 +57,10 @@ put-rows-spec =
     (tie.spec
     Inv-loop
     μ-loop
-    index-at-requires
-    mul-at
+    first-record-requires
     loop-holds
     put-line-requires
-    index-at-requires-2
-    mul-at-2
+    next-record-requires
     loop-less
     loop-again
     same-length

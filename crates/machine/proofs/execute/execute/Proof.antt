@@ -1,13 +1,12 @@
 -- `machine::execute::execute` meets its contract. Assumes nothing.
-use mathlib.Core.Path.{_≡_, sym, ap, _∙_, subst}
-use mathlib.Core.Option.{none}
+use mathlib.Core.Path.{sym, ap, _∙_, subst}
 use Prim.Native.Nat.{ℕ}
 use lib.ListN.{set}
 use borrow.Author.Needs.{needs}
 use Rattle.words.specs.declared.handle.Handle.{Handle}
-use Rattle.words.specs.Refusals.{verdictOf}
-use Rattle.machine.specs.Driver.{held, ended, Executed}
-use Rattle.machine.proofs.ExecuteLaws.{opened-by, executed-short, executed-refused, executed-ran}
+use Rattle.machine.specs.Unit.{stripRecord, unitState}
+use Rattle.machine.specs.Runner.{ended, Executed}
+use Rattle.machine.proofs.ExecuteLaws.{passed, opened-by, executed-short, executed-refused, executed-ran}
 use Rattle.machine.proofs.execute.execute.Statement.{statement}
 use Rattle.machine.proofs.execute.execute.Tie as tie
 
@@ -46,8 +45,8 @@ clear-requires c κs = search needs
 new-requires : tie.Need-new-requires
 new-requires c κs = search needs
 
-drive-requires : tie.Need-drive-requires
-drive-requires c κs = search needs
+run-calls-requires : tie.Need-run-calls-requires
+run-calls-requires c κs = search needs
 
 put-answers-requires : tie.Need-put-answers-requires
 put-answers-requires c κs = search needs
@@ -82,21 +81,25 @@ same-length-5 c = search needs
 
 returns-3 : tie.Need-returns-3
 returns-3 c =
-    let e = c .before .before .before .before .before .before .before .before .before .before .before .before .before .before .before .before .before .before .before .before .before .before .before .before .before .before .before .before .before in
+    let f = c .before .before .before .before .before .before .before .before .before .before .before .before in
+    let g = f .before .before .before .before .before in
+    let h = g .before .before .before in
+    let l = h .before .before .before .before .before .before in
+    let e = l .before .before .before in
     let a = e .before .before .before .before .before .before .before .before .before .args in
     let k = e .before .before .check-opening in
-    let laid = c .before .before .before .before .before .before .before .before .before .before .before .before .before .before .before .before .before .before .before .before .before .before .before .before .before .before .create in
-    let cleared = c .before .before .before .before .before .before .before .before .before .before .before .before .before .before .before .before .before .before .before .before .clear in
-    let new = c .before .before .before .before .before .before .before .before .before .before .before .before .before .before .before .before .before .new in
-    let d = c .before .before .before .before .before .before .before .before .before .before .before .before .drive in
+    let laid = l .create in
+    let cleared = h .clear in
+    let new = g .new in
+    let d = f .run-calls in
     let put = c .before .before .put-answers in
-    let pass : verdictOf (k .result) ≡ none = ap verdictOf (e .enum-told .given .1) in
-    executed-ran (a .script .now) (a .capacity) (a .order) (a .words .now) (a .counters .now) (a .image .now) (a .answers .now) (k .result)
-    (held (new .result) (laid .last .1 .0) (laid .last .1 .1 .0) (cleared .last .0)) (d .result) (d .last .1 .1 .0) (d .last .1 .1 .1 .0)
-    (d .last .1 .1 .1 .1 .0) (d .last .1 .1 .1 .1 .1 .0) (put .last .0)
-    (e .before .before .before .if1 .left) (k .ensures) (e .enum-told .given .1)
-    (ap (λ (h : Handle). held h (laid .last .1 .0) (laid .last .1 .1 .0) (cleared .last .0)) (new .ensures)
-    ∙ opened-by (a .capacity) (a .order) (a .words .now) (a .counters .now) (a .image .now) (sym (k .ensures) ∙ pass) _ _ (laid .last .1 .0)
+    let p = passed (a .capacity) (a .order) (a .words .now) (a .counters .now) (a .image .now) (k .result) (k .ensures) (e .enum-told .given .1) in
+    executed-ran (a .script .now) (a .capacity) (a .order) (a .words .now) (a .counters .now) (a .image .now) (a .answers .now)
+    (unitState (stripRecord (new .result) (laid .last .1 .0) (laid .last .1 .1 .0)) (cleared .last .0))
+    (unitState (stripRecord (d .result) (d .last .1 .1 .0) (d .last .1 .1 .1 .0)) (d .last .1 .1 .1 .1 .0)) (d .last .1 .1 .1 .1 .1 .0) (put .last .0)
+    (e .before .before .before .if1 .left) p
+    (ap (λ (h : Handle). unitState (stripRecord h (laid .last .1 .0) (laid .last .1 .1 .0)) (cleared .last .0)) (new .ensures)
+    ∙ opened-by (a .capacity) (a .order) (a .words .now) (a .counters .now) (a .image .now) p _ _ (laid .last .1 .0)
     (laid .last .1 .1 .0) (cleared .last .0) (laid .ensures) (cleared .ensures))
     (d .ensures) (put .ensures)
 
@@ -115,7 +118,7 @@ execute-spec =
     create-requires
     clear-requires
     new-requires
-    drive-requires
+    run-calls-requires
     put-answers-requires
     same-length
     returns-2

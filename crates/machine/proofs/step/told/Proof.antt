@@ -4,7 +4,7 @@ use Prim.Native.Nat.{ℕ}
 use borrow.Author.Needs.{needs}
 use Rattle.words.specs.Refusals.{toldOf}
 use Rattle.words.specs.declared.refusal.Answer.{Answer}
-use Rattle.machine.specs.Driver.{reply, toldReply}
+use Rattle.machine.specs.Machine.{refuses, tells}
 use Rattle.machine.proofs.step.told.Statement.{statement}
 use Rattle.machine.proofs.step.told.Tie as tie
 
@@ -18,12 +18,12 @@ number-requires : tie.Need-number-requires
 number-requires c κs = search needs
 
 returns : tie.Need-returns
-returns c = sym (ap (λ (r : Answer). toldReply (c .before .before .before .args .h) (toldOf r)) (c .before .r .given .1))
+returns c = sym (ap (λ (r : Answer). tells (c .before .before .before .args .h) (toldOf r)) (c .before .r .given .1))
 
 returns-2 : tie.Need-returns-2
 returns-2 c =
-    ap (λ (n : ℕ). reply (c .before .before .before .before .args .h) n 0 0) (c .number .ensures .0)
-    ∙ sym (ap (λ (r : Answer). toldReply (c .before .before .before .before .args .h) (toldOf r)) (c .before .before .r2 .given .1))
+    ap (λ (n : ℕ). refuses (c .before .before .before .before .args .h) n) (c .number .ensures .0)
+    ∙ sym (ap (λ (r : Answer). tells (c .before .before .before .before .args .h) (toldOf r)) (c .before .before .r2 .given .1))
 
 pub told-spec : {M : Type 1} → statement M
 told-spec = tie.close (tie.spec enum-known-r enum-known-r-2 number-requires returns returns-2)

@@ -1,10 +1,9 @@
 -- `testing::record::strip_verify` meets its contract: it is that of `verify`, then that of `coded`. Assumes nothing.
 use borrow.Author.Needs.{needs}
+use mathlib.Core.Path.{ap, _∙_}
 use Rattle.words.specs.declared.handle.Handle.{Handle}
-use Rattle.words.specs.Refusals.{toldOf}
-use Rattle.words.specs.Handles.{handle}
-use Rattle.counters.specs.Calls.{Verified}
-use Rattle.testing.proofs.ExportLaws.{coded-as}
+use Rattle.words.specs.Refusals.{coded}
+use Rattle.counters.specs.Calls.{verifyTold}
 use Rattle.testing.proofs.record.strip_verify.Statement.{statement}
 use Rattle.testing.proofs.record.strip_verify.Tie as tie
 
@@ -20,8 +19,8 @@ coded-requires c κs = search needs
 returns : tie.Need-returns
 returns c =
     let a = c .before .before .before .before .before .args in
-    coded-as (λ (h : Handle). Verified h (a .words .now) (a .counters .now)) (c .before .before .new .result) (handle (a .capacity) (a .length)) (toldOf (c .before .verify .result)) (c .coded .result)
-    (c .before .before .new .ensures) (c .before .verify .ensures) (c .coded .ensures)
+    c .coded .ensures
+    ∙ ap coded (c .before .verify .ensures ∙ ap (λ (h : Handle). verifyTold h (a .words .now) (a .counters .now)) (c .before .before .new .ensures))
 
 pub strip-verify-spec : {M : Type 1} → statement M
 strip-verify-spec = tie.close (tie.spec new-requires verify-requires coded-requires returns)

@@ -4,7 +4,7 @@ use borrow.Author.Needs.{needs}
 use Rattle.words.specs.declared.handle.Handle.{Handle}
 use Rattle.words.specs.Handles.{handle}
 use Rattle.machine.specs.Scripts.{called}
-use Rattle.machine.specs.Driver.{held, Acted}
+use Rattle.machine.specs.Unit.{stripRecord, unitState, Acted}
 use Rattle.testing.specs.Exports.{lentAll}
 use Rattle.testing.proofs.ExportLaws.{step-idle, step-ran}
 use Rattle.testing.proofs.script.strip_step.Statement.{statement}
@@ -14,7 +14,7 @@ returns : tie.Need-returns
 returns c =
     let a = c .before .before .before .before .before .args in
     step-idle
-    (Acted (called (a .op) (a .x) (a .y) (a .z)) (held (handle (a .capacity) (a .length)) (a .words .now) (a .counters .now) (a .image .now)))
+    (Acted (called (a .op) (a .x) (a .y) (a .z)) (unitState (stripRecord (handle (a .capacity) (a .length)) (a .words .now) (a .counters .now)) (a .image .now)))
     (lentAll (a .words .now) (a .counters .now) (a .image .now) (a .out .now)) (c .if1 .taken)
 
 new-requires : tie.Need-new-requires
@@ -40,14 +40,16 @@ same-length-4 c = search needs
 
 returns-2 : tie.Need-returns-2
 returns-2 c =
-    let a = c .before .before .before .before .before .before .before .before .before .before .before .before .before .before .before .before .before .before .before .before .args in
-    let n = c .before .before .before .before .before .before .before .before .before .before .before .before .before .before .new in
-    let d = c .before .before .before .before .before .before .before .before .before .before .step in
+    let b = c .before .before .before .before .before .before .before .before .before .before in
+    let e = b .before .before .before .before in
+    let a = e .before .before .before .before .before .before .args in
+    let n = e .new in
+    let d = b .step in
     let w = c .before .before .write-five in
-    step-ran (λ (h : Handle). Acted (called (a .op) (a .x) (a .y) (a .z)) (held h (a .words .now) (a .counters .now) (a .image .now))) (n .result)
+    step-ran (λ (h : Handle). Acted (called (a .op) (a .x) (a .y) (a .z)) (unitState (stripRecord h (a .words .now) (a .counters .now)) (a .image .now))) (n .result)
     (handle (a .capacity) (a .length)) (lentAll (a .words .now) (a .counters .now) (a .image .now) (a .out .now)) (d .result)
     (d .last .1 .1 .1 .1 .1 .0) (d .last .1 .1 .1 .1 .1 .1 .0) (d .last .1 .1 .1 .1 .1 .1 .1 .0) (w .last .0) (n .ensures)
-    (omega (arith, c .before .before .before .before .before .before .before .before .before .before .before .before .before .before .before .if1 .left)) (d .ensures) (w .ensures)
+    (omega (arith, e .before .if1 .left)) (d .ensures) (w .ensures)
 
 pub strip-step-spec : {M : Type 1} → statement M
 strip-step-spec =

@@ -4,7 +4,7 @@ use Prim.Native.Nat.{ℕ, _+_, _-_, _*_, _%_, _^_, _<_}
 use native.Mathlib.Omega.{arith}
 use lib.Bits.{bitAnd, bitOr}
 use borrow.Author.Needs.{needs}
-use Rattle.words.specs.Working.{Written}
+use Rattle.words.specs.Working.{WordPut}
 use Rattle.words.proofs.BitLaws.{one-shl, mask, mask-one}
 use Rattle.words.proofs.WordLaws.{written-set, written-clear}
 use Rattle.words.proofs.bits.put_bit.Statement.{statement}
@@ -22,14 +22,14 @@ returns c =
     let x : ℕ = c .before .args .x in
     let i : ℕ = c .before .args .i in
     let v : 1 ≡ c .before .args .v = sym (c .if1 .taken) in
-    subst₂ (λ (b r : ℕ). Written x i (i + 1) b r) v (ap (bitOr x) (made i (c .before .pre .0))) (written-set x 1 i)
+    subst₂ (λ (b r : ℕ). WordPut x i (i + 1) b r) v (ap (bitOr x) (made i (c .before .pre .0))) (written-set x 1 i)
 
 returns-2 : tie.Need-returns-2
 returns-2 c =
     let x : ℕ = c .before .args .x in
     let i : ℕ = c .before .args .i in
     let v : 0 ≡ c .before .args .v = omega arith in
-    subst₂ (λ (b r : ℕ). Written x i (i + 1) b r) v (ap (λ (m : ℕ). bitAnd x ((2 ^ 64 - 1) - m)) (made i (c .before .pre .0)))
+    subst₂ (λ (b r : ℕ). WordPut x i (i + 1) b r) v (ap (λ (m : ℕ). bitAnd x ((2 ^ 64 - 1) - m)) (made i (c .before .pre .0)))
     (written-clear x 1 i (c .before .fits .x .fits) (omega arith))
 
 pub put-bit-spec : {M : Type 1} → statement M

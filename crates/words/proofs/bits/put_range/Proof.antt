@@ -5,7 +5,7 @@ use native.Mathlib.Omega.{arith}
 use lib.Pow.{pow-mono}
 use lib.Bits.{bitAnd, bitOr}
 use borrow.Author.Needs.{needs}
-use Rattle.words.specs.Working.{Written}
+use Rattle.words.specs.Working.{WordPut}
 use Rattle.words.proofs.BitLaws.{mask, mask-is}
 use Rattle.words.proofs.WordLaws.{written-set, written-clear}
 use Rattle.words.proofs.bits.put_range.Statement.{statement}
@@ -41,9 +41,9 @@ returns c =
     let x : ℕ = s .args .x in
     let a : ℕ = s .args .a in
     let e : ℕ = s .args .e in
-    let w : Written x a e 1 (bitOr x (mask (e - a) a)) = rw (upto a e (s .pre .0)) at (written-set x (e - a) a) in
+    let w : WordPut x a e 1 (bitOr x (mask (e - a) a)) = rw (upto a e (s .pre .0)) at (written-set x (e - a) a) in
     let v : 1 ≡ s .args .v = sym (c .if1 .taken) in
-    mathlib.Core.Path.subst₂ (λ (b r : ℕ). Written x a e b r) v (ap (bitOr x) (sym (made (c .before)))) w
+    mathlib.Core.Path.subst₂ (λ (b r : ℕ). WordPut x a e b r) v (ap (bitOr x) (sym (made (c .before)))) w
 
 returns-2 : tie.Need-returns-2
 returns-2 c =
@@ -51,10 +51,10 @@ returns-2 c =
     let x : ℕ = s .args .x in
     let a : ℕ = s .args .a in
     let e : ℕ = s .args .e in
-    let w : Written x a e 0 (bitAnd x ((2 ^ 64 - 1) - mask (e - a) a)) =
+    let w : WordPut x a e 0 (bitAnd x ((2 ^ 64 - 1) - mask (e - a) a)) =
     rw (upto a e (s .pre .0)) at (written-clear x (e - a) a (s .fits .x .fits) (omega arith)) in
     let v : 0 ≡ s .args .v = omega arith in
-    mathlib.Core.Path.subst₂ (λ (b r : ℕ). Written x a e b r) v (ap (λ (m : ℕ). bitAnd x ((2 ^ 64 - 1) - m)) (sym (made (c .before)))) w
+    mathlib.Core.Path.subst₂ (λ (b r : ℕ). WordPut x a e b r) v (ap (λ (m : ℕ). bitAnd x ((2 ^ 64 - 1) - m)) (sym (made (c .before)))) w
 
 pub put-range-spec : {M : Type 1} → statement M
 put-range-spec = tie.close (tie.spec low-mask-requires low-mask-requires-2 sub-mask returns returns-2)

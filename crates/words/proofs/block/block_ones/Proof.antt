@@ -5,7 +5,7 @@ use native.Mathlib.Nat.{le-refl}
 use native.Mathlib.Omega.{arith}
 use borrow.Author.Needs.{needs}
 use Rattle.words.specs.Bits.{bitAt, ones}
-use Rattle.words.proofs.Sums.{ones-zero, ones-le}
+use Rattle.words.proofs.Sums.{sum-zero, ones-le}
 use Rattle.words.proofs.WordLaws.{word-ones, bitAt-le}
 use Rattle.words.proofs.block.block_ones.Statement.{statement}
 use Rattle.words.proofs.block.block_ones.Tie as tie
@@ -17,7 +17,7 @@ abbrev μ-loop : tie.MeasureT-loop
 μ-loop block sum₀ j₀ sum j = 8 - j
 
 loop-holds : tie.Need-loop-holds Inv-loop μ-loop
-loop-holds c = omega (arith, ones-zero (bitAt (c .before .args .block .now)))
+loop-holds c = omega (arith, sum-zero (bitAt (c .before .args .block .now)))
 
 mul-ones-of : tie.Need-mul-ones-of Inv-loop μ-loop
 mul-ones-of c = omega arith

@@ -6,7 +6,7 @@ use lib.ListN.{getD}
 use lib.Bits.{bitAnd}
 use borrow.Author.Needs.{needs}
 use Rattle.words.specs.Bits.{bit, bitAt, ones}
-use Rattle.words.proofs.Sums.{ones-zero, ones-le}
+use Rattle.words.proofs.Sums.{sum-zero, ones-le}
 use Rattle.words.proofs.WordLaws.{bitAt-le}
 use Rattle.words.proofs.BlockLaws.{masked-word}
 use Rattle.words.proofs.block.block_rank.Statement.{statement}
@@ -22,7 +22,7 @@ loop-holds : tie.Need-loop-holds Inv-loop μ-loop
 loop-holds c =
     let a = c .before .args in
     let e : min (64 * 0) (a .m) ≡ 0 = omega arith in
-    (omega arith, sym (ap (ones (bitAt (a .block .now))) e ∙ ones-zero (bitAt (a .block .now))))
+    (omega arith, sym (ap (ones (bitAt (a .block .now))) e ∙ sum-zero (bitAt (a .block .now))))
 
 mul-ones-of : tie.Need-mul-ones-of Inv-loop μ-loop
 mul-ones-of c = omega arith

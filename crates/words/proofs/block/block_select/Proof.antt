@@ -8,7 +8,7 @@ use borrow.Author.Needs.{needs}
 use Rattle.words.specs.Bits.{bitAt}
 use Rattle.words.specs.Strip.{holds, rankOf, selectOf}
 use Rattle.words.specs.Words.{placeIn}
-use Rattle.words.proofs.Sums.{ones-zero}
+use Rattle.words.proofs.Sums.{sum-zero}
 use Rattle.words.proofs.SearchLaws.{rank-le}
 use Rattle.words.proofs.BlockSelectLaws.{word-rank, Passed, passed-none, passed-more, passed-place}
 use Rattle.words.proofs.block.block_select.Statement.{statement}
@@ -24,7 +24,7 @@ loop-holds : tie.Need-loop-holds Inv-loop μ-loop
 loop-holds c =
     let a = c .before .args in
     let f : ℕ → ℕ = bitAt (a .block .now) in
-    (omega arith, omega (arith, ones-zero (holds f (a .v))), passed-none f (a .v) (a .k))
+    (omega arith, omega (arith, sum-zero (holds f (a .v))), passed-none f (a .v) (a .k))
 
 mul-word-count : tie.Need-mul-word-count Inv-loop μ-loop
 mul-word-count c = omega arith
@@ -68,7 +68,7 @@ loop-again c =
       next (c .before),
       passed-more (bitAt (a .block .now)) (a .v) (a .k) (l .i) (l .j) (l .passed) (l .sum + c .before .word-count .result) (c .if1 .j) (c .if1 .passed)
           (next (c .before)) (l .inv .2)
-          (⊎-elim (λ w. inl (w .0 .taken, (w .2, w .1))) (λ w. inr (w .0 .left, (w .2, w .1))) (c .if1 .came)),
+          (⊎-elim (λ w. inl (omega (arith, w .0 .taken), (w .2, w .1))) (λ w. inr (w .0 .left, (w .2, w .1))) (c .if1 .came)),
     )
 
 -- seven words are counted

@@ -61,7 +61,7 @@ under-le c = go (c .before .lanes-at-most .result) (under-ones c) (which (c .bef
     go : (j : ℕ) → under c ≡ ones (bit (c .before .before .before .before .args .x)) (8 * j)
         → ((i : ℕ) → i < j → ones (bit (c .before .before .before .before .args .x)) (8 * i + 8) ≤ c .before .before .before .before .args .k)
         → under c ≤ c .before .before .before .before .args .k
-    go Prim.Native.Nat.zero e low = omega (arith, e, Rattle.words.proofs.Sums.ones-zero (bit (c .before .before .before .before .args .x)))
+    go Prim.Native.Nat.zero e low = omega (arith, e, Rattle.words.proofs.Sums.sum-zero (bit (c .before .before .before .before .args .x)))
     go (Prim.Native.Nat.suc i) e low =
         let m : 8 * Prim.Native.Nat.suc i ≡ 8 * i + 8 = omega arith in
         omega (arith, e, low i (native.Mathlib.Nat.lt-suc-self i), ap (ones (bit (c .before .before .before .before .args .x))) m)
