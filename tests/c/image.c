@@ -1,18 +1,8 @@
 /* The calls on an image, from C: the strip 01010 frozen as label 3, and read by its label and from its own part. */
-#include <stdio.h>
-#include <string.h>
-
 #include "testing.h"
 
-static const uint64_t refused = UINT64_C(1) << 32;
-static int failed = 0;
-
-static void expect(const char *what, uint64_t got, uint64_t wanted) {
-    if (got != wanted) {
-        printf("%s: %llu, not %llu\n", what, (unsigned long long)got, (unsigned long long)wanted);
-        failed = 1;
-    }
-}
+#include "../common/expect.h"
+#include "../common/judge.h"
 
 /* 01010 as label 3: 560 bytes, all zero past these. */
 static const uint8_t written[49] = {1, 0, 0, 0, 1, 0, 0, 0, 0, 0, 0, 0, 0, 0, 0, 0,  0,
@@ -30,54 +20,102 @@ static void freeze(uint8_t *image) {
     const uint8_t empty[5] = {0, 0, 0, 0, 1};
     const uint64_t words[8] = {10 + (1 << 5), 0, 0, 0, 0, 0, 0, UINT64_MAX};
     memset(image, 0, 560);
-    expect("clear of 15 bytes", image_clear(image, 15), refused + 13);
+    expect("clear of 15 bytes", image_clear(image, 15), REFUSED(NO_ROOM));
     expect("clear", image_clear(image, 560), 16);
-    expect("open of an empty chain", image_open(image, 560, 3), refused + 14);
-    expect("freeze, capacity 513", image_freeze(513, 5, words, 8, image, 560, 3), refused + 1);
-    expect("freeze, seven words", image_freeze(512, 5, words, 7, image, 560, 3), refused + 2);
-    expect("freeze, no words", image_freeze(512, 5, NULL, 0, image, 560, 3), refused + 2);
-    expect("freeze on no bytes", image_freeze(512, 5, words, 8, NULL, 0, 3), refused + 10);
-    expect("freeze, label 65", image_freeze(512, 5, words, 8, image, 560, 65), refused + 11);
-    expect("freeze on 559 bytes", image_freeze(512, 5, words, 8, image, 559, 3), refused + 13);
+    expect("open of an empty chain", image_open(image, 560, 3), REFUSED(LABEL_ABSENT));
+    expect("freeze, capacity 513", image_freeze(513, 5, words, 8, image, 560, 3), REFUSED(BAD_HANDLE));
+    expect("freeze, seven words", image_freeze(512, 5, words, 7, image, 560, 3), REFUSED(WORD_COUNT));
+    expect("freeze, no words", image_freeze(512, 5, NULL, 0, image, 560, 3), REFUSED(WORD_COUNT));
+    expect("freeze on no bytes", image_freeze(512, 5, words, 8, NULL, 0, 3), REFUSED(UNSOUND));
+    expect("freeze, label 65", image_freeze(512, 5, words, 8, image, 560, 65), REFUSED(BAD_LABEL));
+    expect("freeze on 559 bytes", image_freeze(512, 5, words, 8, image, 559, 3), REFUSED(NO_ROOM));
     expect_bytes("bytes after refused calls", image, empty, sizeof empty);
     expect("freeze", image_freeze(512, 5, words, 8, image, 560, 3), 1);
     expect_bytes("bytes after freeze", image, written, sizeof written);
-    expect("freeze again", image_freeze(512, 5, words, 8, image, 560, 3), refused + 12);
-    expect("freeze without room", image_freeze(512, 0, words, 8, image, 560, 4), refused + 13);
+    expect("freeze again", image_freeze(512, 5, words, 8, image, 560, 3), REFUSED(LABEL_PRESENT));
+    expect("freeze without room", image_freeze(512, 0, words, 8, image, 560, 4), REFUSED(NO_ROOM));
     expect_bytes("bytes in the end", image, written, sizeof written);
 }
 
 static void read_row(const uint8_t *image) {
     expect("open", image_open(image, 560, 3), 16);
-    expect("open of label 65", image_open(image, 560, 65), refused + 11);
-    expect("open of 559 bytes", image_open(image, 559, 3), refused + 10);
+    expect("open of label 65", image_open(image, 560, 65), REFUSED(BAD_LABEL));
+    expect("open of 559 bytes", image_open(image, 559, 3), REFUSED(UNSOUND));
     expect("row look(3)", image_row_get(image, 560, 3, 3), 1);
-    expect("row look(5)", image_row_get(image, 560, 3, 5), refused + 4);
+    expect("row look(5)", image_row_get(image, 560, 3, 5), REFUSED(POSITION));
     expect("row count(1, 5)", image_row_rank(image, 560, 3, 1, 5), 2);
-    expect("row count(0, 6)", image_row_rank(image, 560, 3, 0, 6), refused + 4);
+    expect("row count(0, 6)", image_row_rank(image, 560, 3, 0, 6), REFUSED(POSITION));
     expect("row find(1, 1)", image_row_select(image, 560, 3, 1, 1), 3);
-    expect("row find(0, 3)", image_row_select(image, 560, 3, 0, 3), refused + 6);
-    expect("row find(2, 0)", image_row_select(image, 560, 3, 2, 0), refused + 8);
-    expect("row look, no bytes", image_row_get(NULL, 0, 3, 3), refused + 10);
-    expect("row count, label 0", image_row_rank(image, 560, 0, 1, 5), refused + 11);
-    expect("row find, label 4", image_row_select(image, 560, 4, 1, 1), refused + 14);
+    expect("row find(0, 3)", image_row_select(image, 560, 3, 0, 3), REFUSED(NOT_FOUND));
+    expect("row find(2, 0)", image_row_select(image, 560, 3, 2, 0), REFUSED(BAD_VALUE));
+    expect("row look, no bytes", image_row_get(NULL, 0, 3, 3), REFUSED(UNSOUND));
+    expect("row count, label 0", image_row_rank(image, 560, 0, 1, 5), REFUSED(BAD_LABEL));
+    expect("row find, label 4", image_row_select(image, 560, 4, 1, 1), REFUSED(LABEL_ABSENT));
     expect("look(3) on the opened row", image_opened_get(image, 560, 3, 3), 1);
-    expect("look(5) on the opened row", image_opened_get(image, 560, 3, 5), refused + 4);
-    expect("look(0) on a row not opened", image_opened_get(image, 560, 4, 0), refused + 10);
+    expect("look(5) on the opened row", image_opened_get(image, 560, 3, 5), REFUSED(POSITION));
+    expect("look(0) on a row not opened", image_opened_get(image, 560, 4, 0), REFUSED(UNSOUND));
     expect("count(1, 5) on the opened row", image_opened_rank(image, 560, 3, 1, 5), 2);
     expect("find(0, 2) on the opened row", image_opened_select(image, 560, 3, 0, 2), 4);
 }
 
 static void read_part(const uint8_t *part) {
     expect("look(3)", image_part_get(part, 544, 5, 3), 1);
-    expect("look(5)", image_part_get(part, 544, 5, 5), refused + 4);
+    expect("look(5)", image_part_get(part, 544, 5, 5), REFUSED(POSITION));
     expect("count(1, 5)", image_part_rank(part, 544, 5, 1, 5), 2);
     expect("count(0, 4)", image_part_rank(part, 544, 5, 0, 4), 2);
     expect("find(1, 1)", image_part_select(part, 544, 5, 1, 1), 3);
     expect("find(0, 2)", image_part_select(part, 544, 5, 0, 2), 4);
-    expect("find(0, 3)", image_part_select(part, 544, 5, 0, 3), refused + 6);
-    expect("find(2, 0)", image_part_select(part, 544, 5, 2, 0), refused + 8);
-    expect("a length not the row's", image_part_get(part, 544, 4, 0), refused + 10);
+    expect("find(0, 3)", image_part_select(part, 544, 5, 0, 3), REFUSED(NOT_FOUND));
+    expect("find(2, 0)", image_part_select(part, 544, 5, 2, 0), REFUSED(BAD_VALUE));
+    expect("a length not the row's", image_part_get(part, 544, 4, 0), REFUSED(UNSOUND));
+}
+
+/* Every reading of a label's row at a position, held to the judge: by label, and on the row opened. */
+static void hold_readings(const char *what, const uint8_t *image, struct opened o, uint64_t label, uint64_t i) {
+    struct opened held = {o.row, REFUSED(UNSOUND)};
+    expect(what, image_row_get(image, 560, label, i), get_answer(o, i));
+    expect(what, image_opened_get(image, 560, label, i), get_answer(held, i));
+    for (size_t k = 0; k < COUNT_OF(values); k++) {
+        uint64_t v = values[k];
+        hold(what, rank_allowed(o, v, i, image_row_rank(image, 560, label, v, i)), label, v, i);
+        hold(what, select_allowed(o, v, i, image_row_select(image, 560, label, v, i)), label, v, i);
+        hold(what, rank_allowed(held, v, i, image_opened_rank(image, 560, label, v, i)), label, v, i);
+        hold(what, select_allowed(held, v, i, image_opened_select(image, 560, label, v, i)), label, v, i);
+    }
+}
+
+/* Every reading of a part with a length held. */
+static void hold_part(const char *what, const uint8_t *part, size_t size, size_t n) {
+    static struct judged one;
+    struct opened o = open_part(&one, part, size, n);
+    for (size_t k = 0; k < 8; k++) {
+        expect(what, image_part_get(part, size, n, k), get_answer(o, k));
+        for (size_t v = 0; v < COUNT_OF(values); v++) {
+            hold(what, rank_allowed(o, values[v], k, image_part_rank(part, size, n, values[v], k)), 0, values[v], k);
+            hold(what, select_allowed(o, values[v], k, image_part_select(part, size, n, values[v], k)), 0, values[v], k);
+        }
+    }
+}
+
+/* Opening, a freeze and every reading at the borders of labels and positions; the image is of 560 bytes. */
+static void hold_image(const char *what, const uint8_t *image) {
+    static const uint64_t words[8] = {10};
+    static struct judged j;
+    uint8_t copy[560];
+    judge(&j, image, 560);
+    for (size_t l = 0; l < COUNT_OF(labels); l++) {
+        struct opened o = open_row(&j, labels[l]);
+        memcpy(copy, image, 560);
+        expect(what, image_open(image, 560, labels[l]), open_answer(o));
+        expect(what, image_freeze(512, 5, words, 8, copy, 560, labels[l]), freeze_answer(&j, 560, 5, labels[l]));
+        for (size_t k = 0; k < COUNT_OF(small); k++)
+            hold_readings(what, image, o, labels[l], small[k]);
+        for (size_t k = 0; k < COUNT_OF(far); k++)
+            hold_readings(what, image, o, labels[l], far[k]);
+    }
+    for (size_t n = 4; n < 7; n++)
+        for (size_t size = 543; size < 545; size++)
+            hold_part(what, image + 16, size, n);
 }
 
 int main(void) {
@@ -85,9 +123,18 @@ int main(void) {
     freeze(image);
     read_row(image);
     read_part(image + 16);
+    hold_image("the example", image);
     image[28] = 6;
-    expect("a wrong number of ones", image_part_select(image + 16, 544, 5, 1, 0), refused + 15);
-    expect("a wrong number of ones, by label", image_row_select(image, 560, 3, 1, 0), refused + 15);
+    expect("a wrong number of ones", image_part_select(image + 16, 544, 5, 1, 0), REFUSED(WRONG_ROW));
+    expect("a wrong number of ones, by label", image_row_select(image, 560, 3, 1, 0), REFUSED(WRONG_ROW));
+    hold_image("a wrong number of ones", image);
+    image[28] = 2;
+    image[20] = 65;
+    hold_image("a wrong label", image);
+    image_clear(image, 560);
+    hold_image("an empty chain", image);
+    for (size_t k = 0; k < COUNT_OF(sizes); k++)
+        expect("clear", image_clear(image, sizes[k]), clear_answer(sizes[k]));
     if (!failed) {
         puts("image: passed");
     }

@@ -1,12 +1,11 @@
 /* Fixed cases of the calls on a record, called from C. */
 #include "testing.h"
 
-#include <inttypes.h>
-#include <stdio.h>
+#include "../common/borders.h"
+#include "../common/expect.h"
+
 #include <stdlib.h>
 #include <string.h>
-
-#define REFUSED(n) ((UINT64_C(1) << 32) + (n))
 
 /* Strip A, 01101101010101110: 17 bits. */
 static const char a[] = "01101101010101110";
@@ -16,18 +15,6 @@ static uint64_t *words;
 static uint32_t *counters;
 static size_t word_count, counter_count, capacity, length;
 static uint64_t out[6];
-
-static int failed = 0;
-
-static void expect(const char *name, uint64_t answer, uint64_t expected)
-{
-    if (answer != expected) {
-        printf("%s: %" PRIu64 ", expected %" PRIu64 "\n", name, answer, expected);
-        failed = 1;
-    }
-}
-
-#define EXPECT(call, expected) expect(#call, call, expected)
 
 #define RECORD words, word_count, counters, counter_count
 
@@ -90,9 +77,9 @@ int main(void)
     EXPECT(rank_of(1, 7), 4);
     EXPECT(select_of(1, 7), 13);
     EXPECT(rank_of(1, 17), 10);
-    EXPECT(rank_of(1, 18), REFUSED(4));
+    EXPECT(rank_of(1, 18), REFUSED(POSITION));
     EXPECT(select_of(1, 9), 15);
-    EXPECT(select_of(1, 10), REFUSED(6));
+    EXPECT(select_of(1, 10), REFUSED(NOT_FOUND));
     EXPECT(rank_of(0, 17), 7);
     EXPECT(select_of(0, 6), 16);
     EXPECT(verify(), 10);
@@ -112,34 +99,34 @@ int main(void)
     EXPECT(verify(), 3);
 
     /* refusals in order: they give back the handle, and two numbers 0 */
-    EXPECT(push(2, 1), REFUSED(8));
-    EXPECT(fill(9, 3, 2), REFUSED(8));
-    EXPECT(fill(14, 13, 1), REFUSED(5));
-    EXPECT(fill(3, 13, 1), REFUSED(4));
-    EXPECT(flip(12, 1), REFUSED(4));
-    EXPECT(truncate_to(13), REFUSED(4));
+    EXPECT(push(2, 1), REFUSED(BAD_VALUE));
+    EXPECT(fill(9, 3, 2), REFUSED(BAD_VALUE));
+    EXPECT(fill(14, 13, 1), REFUSED(SPAN));
+    EXPECT(fill(3, 13, 1), REFUSED(POSITION));
+    EXPECT(flip(12, 1), REFUSED(POSITION));
+    EXPECT(truncate_to(13), REFUSED(POSITION));
     EXPECT(out[1] + out[2], 0);
     EXPECT(out[3], 512);
     EXPECT(out[4], 12);
 
     /* a wrong counter is found, and an empty span lays it right */
     counters[40]++;
-    EXPECT(verify(), REFUSED(9));
+    EXPECT(verify(), REFUSED(UNFIT));
     EXPECT(fill(12, 12, 1), 3);
     EXPECT(verify(), 3);
 
     /* P6; 1, 2, 3, and no handle; no buffers at all */
     EXPECT(create(512, 1), 72);
     EXPECT(rank_of(0, 0), 0);
-    EXPECT(select_of(0, 0), REFUSED(6));
-    EXPECT(create(513, 1), REFUSED(1));
-    EXPECT(create(1024, 1), REFUSED(2));
+    EXPECT(select_of(0, 0), REFUSED(NOT_FOUND));
+    EXPECT(create(513, 1), REFUSED(BAD_HANDLE));
+    EXPECT(create(1024, 1), REFUSED(WORD_COUNT));
     counter_count = 71;
-    EXPECT(create(512, 1), REFUSED(3));
+    EXPECT(create(512, 1), REFUSED(COUNTER_COUNT));
     EXPECT(out[3] + out[4], 0);
     counter_count = 72;
-    EXPECT(strip_rank(512, 0, NULL, 0, NULL, 0, 2, 1), REFUSED(2));
-    EXPECT(strip_verify(0, 0, NULL, 0, NULL, 0), REFUSED(1));
+    EXPECT(strip_rank(512, 0, NULL, 0, NULL, 0, 2, 1), REFUSED(WORD_COUNT));
+    EXPECT(strip_verify(0, 0, NULL, 0, NULL, 0), REFUSED(BAD_HANDLE));
 
     /* too short an `out`, or none: nothing happens */
     EXPECT(push(1, 1), 0);
@@ -150,21 +137,20 @@ int main(void)
     EXPECT(verify(), 1);
 
     /* P9, P10 */
-    full_strip(32768, 72);
-    EXPECT(push(1, 1), REFUSED(7));
-    EXPECT(push(2, 1), REFUSED(8));
+    full_strip(ONE_LEVEL, 72);
+    EXPECT(push(1, 1), REFUSED(FULL));
+    EXPECT(push(2, 1), REFUSED(BAD_VALUE));
     EXPECT(flip(32767, 2), 1);
     EXPECT(rank_of(1, 32768), 32767);
-    full_strip(33280, 216);
+    full_strip(TWO_LEVELS, 216);
     EXPECT(flip(32768, 2), 29);
     EXPECT(select_of(0, 0), 32768);
     EXPECT(select_of(1, 33278), 33279);
 
     /* P11 */
-    static const size_t sizes[][2] = {{32768, 72}, {33280, 216}, {2097152, 4680}, {2097664, 4896}, {134217728, 299592}};
-    for (size_t k = 0; k < sizeof sizes / sizeof sizes[0]; k++) {
-        room(sizes[k][0], sizes[k][1]);
-        EXPECT(create(sizes[k][0], 1), sizes[k][1]);
+    for (size_t k = 0; k < COUNT_OF(capacities); k++) {
+        room(capacities[k][0], capacities[k][1]);
+        EXPECT(create(capacities[k][0], 1), capacities[k][1]);
         EXPECT(verify(), 0);
     }
     free(words);

@@ -1,10 +1,8 @@
 /* Fixed cases of the calls on words, called from C. */
 #include "testing.h"
 
-#include <inttypes.h>
-#include <stdio.h>
-
-#define REFUSED(n) ((UINT64_C(1) << 32) + (n))
+#include "../common/expect.h"
+#include "../common/judge.h"
 
 /* Strip A, 01101101010101110: 17 bits, capacity 512. */
 static const uint64_t a[8] = {0xeab6};
@@ -13,49 +11,71 @@ static const uint64_t a[8] = {0xeab6};
 #define ONES UINT64_MAX
 static const uint64_t full[8] = {ONES, ONES, ONES, ONES, ONES, ONES, ONES, ONES};
 
-static int failed = 0;
-
-static void expect(const char *name, uint64_t answer, uint64_t expected)
+/* look, next and prior of a strip at each position and far past, held to the judge. */
+static void hold_strip(size_t length, const uint64_t *words)
 {
-    if (answer != expected) {
-        printf("%s: %" PRIu64 ", expected %" PRIu64 "\n", name, answer, expected);
-        failed = 1;
+    struct row room;
+    struct opened strip = open_strip(&room, 512, length, words, 8);
+    for (size_t k = 0; k < 600 + COUNT_OF(far); k++) {
+        size_t i = k < 600 ? k : far[k - 600];
+        hold("look", strip_get(512, length, words, 8, i) == get_answer(strip, i), 0, 0, i);
+        for (size_t b = 0; b < COUNT_OF(values); b++) {
+            uint64_t v = values[b], next = strip_successor(512, length, words, 8, v, i);
+            hold("next", next == successor_answer(strip, v, i), 0, v, i);
+            uint64_t prior = strip_predecessor(512, length, words, 8, v, i);
+            hold("prior", prior == predecessor_answer(strip, v, i), 0, v, i);
+        }
     }
 }
 
-#define EXPECT(call, expected) expect(#call, call, expected)
+/* The word select of a word at each k and far past, held to the judge. */
+static void hold_word(uint64_t x)
+{
+    for (size_t n = 0; n < 70 + COUNT_OF(far); n++) {
+        size_t k = n < 70 ? n : far[n - 70];
+        hold("select in a word", strip_select_in_word(x, k) == word_select_answer(x, k), 0, x, k);
+    }
+}
 
 int main(void)
 {
     EXPECT(strip_get(512, 17, a, 8, 0), 0);
     EXPECT(strip_get(512, 17, a, 8, 15), 1);
-    EXPECT(strip_get(512, 17, a, 8, 17), REFUSED(4));
+    EXPECT(strip_get(512, 17, a, 8, 17), REFUSED(POSITION));
     EXPECT(strip_get(512, 512, full, 8, 511), 1);
 
     EXPECT(strip_successor(512, 17, a, 8, 1, 8), 9);
     EXPECT(strip_successor(512, 17, a, 8, 0, 13), 16);
-    EXPECT(strip_successor(512, 17, a, 8, 1, 16), REFUSED(6));
-    EXPECT(strip_successor(512, 17, a, 8, 1, 18), REFUSED(4));
+    EXPECT(strip_successor(512, 17, a, 8, 1, 16), REFUSED(NOT_FOUND));
+    EXPECT(strip_successor(512, 17, a, 8, 1, 18), REFUSED(POSITION));
     EXPECT(strip_successor(512, 511, full, 8, 1, 510), 510);
-    EXPECT(strip_successor(512, 512, full, 8, 0, 0), REFUSED(6));
+    EXPECT(strip_successor(512, 512, full, 8, 0, 0), REFUSED(NOT_FOUND));
 
     EXPECT(strip_predecessor(512, 17, a, 8, 1, 17), 15);
     EXPECT(strip_predecessor(512, 17, a, 8, 0, 16), 12);
-    EXPECT(strip_predecessor(512, 17, a, 8, 1, 1), REFUSED(6));
-    EXPECT(strip_predecessor(512, 17, a, 8, 2, 18), REFUSED(8));
+    EXPECT(strip_predecessor(512, 17, a, 8, 1, 1), REFUSED(NOT_FOUND));
+    EXPECT(strip_predecessor(512, 17, a, 8, 2, 18), REFUSED(BAD_VALUE));
 
     /* 1 before 2, 2 before the rest; no words at all */
-    EXPECT(strip_get(513, 17, a, 8, 0), REFUSED(1));
-    EXPECT(strip_get(512, 513, a, 8, 0), REFUSED(1));
-    EXPECT(strip_get(512, 17, a, 7, 17), REFUSED(2));
-    EXPECT(strip_get(0, 0, NULL, 0, 0), REFUSED(1));
-    EXPECT(strip_get(512, 0, NULL, 0, 0), REFUSED(2));
-    EXPECT(strip_successor(512, 0, NULL, 0, 2, 1), REFUSED(2));
-    EXPECT(strip_predecessor(SIZE_MAX, 0, NULL, 0, 1, 0), REFUSED(1));
+    EXPECT(strip_get(513, 17, a, 8, 0), REFUSED(BAD_HANDLE));
+    EXPECT(strip_get(512, 513, a, 8, 0), REFUSED(BAD_HANDLE));
+    EXPECT(strip_get(512, 17, a, 7, 17), REFUSED(WORD_COUNT));
+    EXPECT(strip_get(0, 0, NULL, 0, 0), REFUSED(BAD_HANDLE));
+    EXPECT(strip_get(512, 0, NULL, 0, 0), REFUSED(WORD_COUNT));
+    EXPECT(strip_successor(512, 0, NULL, 0, 2, 1), REFUSED(WORD_COUNT));
+    EXPECT(strip_predecessor(SIZE_MAX, 0, NULL, 0, 1, 0), REFUSED(BAD_HANDLE));
 
     EXPECT(strip_select_in_word(a[0], 7), 13);
     EXPECT(strip_select_in_word(a[0], 10), 64);
     EXPECT(strip_select_in_word(ONES, 63), 63);
     EXPECT(strip_select_in_word(ONES, SIZE_MAX), 64);
+
+    hold_strip(0, full);
+    hold_strip(17, a);
+    hold_strip(511, full);
+    hold_strip(512, full);
+    hold_word(0);
+    hold_word(a[0]);
+    hold_word(ONES);
     return failed;
 }

@@ -2,6 +2,8 @@
  * that are multiples of STEP; none for STEP 0. */
 #include "testing.h"
 
+#include "../common/refusals.h"
+
 #include <stdio.h>
 #include <stdlib.h>
 #include <string.h>
@@ -28,7 +30,7 @@ int main(int count, char **args)
         if (sscanf(args[k], "%zu:%zu:%zu", &label, &length, &step) != 3 || length > CAPACITY)
             return 1;
         fill(length, step);
-        if (image_freeze(CAPACITY, length, words, CAPACITY / 64, image, size, label) >> 32 != 0)
+        if (is_refused(image_freeze(CAPACITY, length, words, CAPACITY / 64, image, size, label)))
             return 1;
     }
     return fwrite(image, 1, size, stdout) == size ? 0 : 1;

@@ -1,4 +1,4 @@
-/* The display's four functions on any bytes, for a coverage-guided fuzzer (libFuzzer), each answer held to judge.h. The
+/* The display's four functions on any bytes, for a coverage-guided fuzzer (libFuzzer), each answer held to common/judge.h. The
  * library itself is not instrumented: the fuzzer sees the branches of the judge, and what kind of answer each call gave.
  *
  * An input is 16 bytes of arguments and then the image: label, v, flags, one unused; i in four bytes; k in four; four
@@ -7,12 +7,10 @@
  * With REPLAY the program runs the files that it is given, and tells how many calls that were. */
 #include "lend.h"
 
+#include "../common/judge.h"
 #include "display.h"
-#include "judge.h"
 
 #include <inttypes.h>
-
-#define WIDE (UINT64_C(1) << 32)
 
 enum { PREFIX = 16, MOST = 65536 };
 enum { INSPECT, COUNT, FIND, LOOK, CALLS };
@@ -30,9 +28,9 @@ static uint8_t kinds[CALLS][2][64];
 static void note(int call, int right, uint64_t told)
 {
     unsigned size = 16;
-    for (uint64_t value = told; value != 0 && told < REFUSED(0); value /= 2)
+    for (uint64_t value = told; value != 0 && !is_refused(told); value /= 2)
         size++;
-    kinds[call][right][told >= REFUSED(0) ? (told - REFUSED(0)) % 16 : size] = 1;
+    kinds[call][right][is_refused(told) ? (told - WIDE) % 16 : size] = 1;
     calls[call]++;
 }
 
@@ -52,14 +50,13 @@ static void hold(int call, int allowed, const struct row *row, uint64_t x, uint6
 /* The three readings of a label's row. */
 static void read_row(const struct judged *j, struct lent l, uint64_t label, uint64_t v, uint64_t i, uint64_t k)
 {
-    const struct row *row;
-    uint64_t refused = opened(j, label, &row);
+    struct opened o = open_row(j, label);
     uint64_t told = strip_row_count(l.read, l.length, label, v, i);
-    hold(COUNT, row == NULL ? told == refused : count_allowed(row, v, i, told), row, v, i, told);
+    hold(COUNT, rank_allowed(o, v, i, told), o.row, v, i, told);
     told = strip_row_find(l.read, l.length, label, v, k);
-    hold(FIND, row == NULL ? told == refused : find_allowed(row, v, k, told), row, v, k, told);
+    hold(FIND, select_allowed(o, v, k, told), o.row, v, k, told);
     told = strip_row_look(l.read, l.length, label, i);
-    hold(LOOK, told == (row == NULL ? refused : look_answer(row, i)), row, i, 0, told);
+    hold(LOOK, told == get_answer(o, i), o.row, i, 0, told);
 }
 
 /* A row at its ends and near a position: of each value the last that there is, by its own count, and one more; and with
@@ -175,8 +172,8 @@ static size_t append(uint8_t *image, size_t size, size_t most, unsigned *seed)
     judge(&j, image, size);
     if (!j.sound || j.count == ROWS)
         return size;
-    const struct row *last = j.count == 0 ? NULL : &j.rows[j.count - 1];
-    uint64_t start = (last == NULL ? 16 : last->start + record_size(last->length)) + (drawn(seed) % 4 == 0 ? 16 : 0);
+    uint64_t link = j.count == 0 ? 0 : j.rows[j.count - 1].start;
+    uint64_t start = next_start(&j) + (drawn(seed) % 4 == 0 ? 16 : 0);
     uint64_t length = drawn(seed) % 3 == 0 ? 4096 * (drawn(seed) % (most / 600)) + drawn(seed) % 3 : drawn(seed) % 12000;
     uint64_t label = 1 + drawn(seed) % 64, end = start + record_size(length);
     if (end > most || row_of(&j, label) != NULL)
@@ -189,7 +186,7 @@ static size_t append(uint8_t *image, size_t size, size_t most, unsigned *seed)
     for (uint64_t b = start + 16 + 16 * superblocks(length); b < end && dense > 0; b++)
         image[b] = (uint8_t)(dense == 1 ? drawn(seed) & drawn(seed) & drawn(seed) : dense == 2 ? drawn(seed) : 255);
     repair_row(image + start);
-    store(image + (last == NULL ? 0 : last->start), 4, start / 16);
+    store(image + link, 4, start / 16);
     return size;
 }
 

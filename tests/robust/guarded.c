@@ -1,24 +1,24 @@
 /* Every exported function, on buffers that lie flush against a closed page, with right, wrong and hostile arguments:
  *
- *     guarded end|start ROUNDS SEED
+ *     guarded end|start ROUNDS SEED [ROUND]
  *
  * All buffers end, or all start, at a closed page. What a call may only read is lent through a view that cannot be
- * written. Each round draws a record and an image and makes calls of every kind on them. Held here is that a call touches
- * nothing that was not lent, tells nothing that it may not tell, and changes nothing where it is refused or only reads;
- * the readings of rows, opening and freezing are held to judge.h in full. At the end every function has been accepted and
- * has met every refusal of its line. */
+ * written. Each round draws a record and an image and makes calls of every kind on them; round 0 is that of the largest. A
+ * round draws from the seed and its number, which a failure tells; with ROUND it runs alone. Held here is that a call
+ * touches nothing that was not lent, tells nothing that it may not tell, and changes nothing where it is refused or only
+ * reads; look, next, prior, freezing, opening and the readings of rows are held to common/judge.h in full. At the end of
+ * all rounds every function has been accepted and has met every refusal of its line. */
 #include "lend.h"
 
+#include "../common/judge.h"
 #include "display.h"
-#include "judge.h"
 #include "testing.h"
 
 #include <inttypes.h>
 
 #define UNTOUCHED UINT64_C(0x5bd1e995a5a55a5a)
-#define WIDE (UINT64_C(1) << 32)
 
-enum { MOST_CAPACITY = 134217728, MOST_COUNTERS = 299592, MOST_IMAGE = 16 + 16 + 528 * 32768 + 64, SCRIPT = 24 };
+enum { MOST_IMAGE = 16 + 16 + 528 * 32768 + 64, SCRIPT = 24 };
 
 /* ---- what was told */
 
@@ -29,55 +29,61 @@ enum call {
 };
 
 #define R(n) (1u << (n))
-#define HANDLE (R(1) | R(2))
-#define RECORD (R(1) | R(2) | R(3))
-#define OPENING (R(10) | R(11) | R(14))
+#define HANDLE (R(BAD_HANDLE) | R(WORD_COUNT))
+#define RECORD (R(BAD_HANDLE) | R(WORD_COUNT) | R(COUNTER_COUNT))
+#define OPENING (R(UNSOUND) | R(BAD_LABEL) | R(LABEL_ABSENT))
 
 /* Each function's refusals. */
 static const struct {
     const char *name;
     unsigned refusals;
 } functions[CALLS] = {
-    [GET] = {"strip_get", HANDLE | R(4)},
-    [SUCCESSOR] = {"strip_successor", HANDLE | R(8) | R(4) | R(6)},
-    [PREDECESSOR] = {"strip_predecessor", HANDLE | R(8) | R(4) | R(6)},
+    [GET] = {"strip_get", HANDLE | R(POSITION)},
+    [SUCCESSOR] = {"strip_successor", HANDLE | R(BAD_VALUE) | R(POSITION) | R(NOT_FOUND)},
+    [PREDECESSOR] = {"strip_predecessor", HANDLE | R(BAD_VALUE) | R(POSITION) | R(NOT_FOUND)},
     [SELECT_IN_WORD] = {"strip_select_in_word", 0},
-    [RANK] = {"strip_rank", RECORD | R(8) | R(4) | R(9)},
-    [SELECT] = {"strip_select", RECORD | R(8) | R(6) | R(9)},
-    [VERIFY] = {"strip_verify", RECORD | R(9)},
+    [RANK] = {"strip_rank", RECORD | R(BAD_VALUE) | R(POSITION) | R(UNFIT)},
+    [SELECT] = {"strip_select", RECORD | R(BAD_VALUE) | R(NOT_FOUND) | R(UNFIT)},
+    [VERIFY] = {"strip_verify", RECORD | R(UNFIT)},
     [CREATE] = {"strip_create", RECORD},
-    [PUSH] = {"strip_push", RECORD | R(8) | R(7)},
-    [FLIP] = {"strip_flip", RECORD | R(4)},
-    [FILL] = {"strip_fill", RECORD | R(8) | R(5) | R(4)},
-    [TRUNCATE] = {"strip_truncate", RECORD | R(4)},
-    [CLEAR] = {"image_clear", R(13)},
-    [FREEZE] = {"image_freeze", HANDLE | R(10) | R(11) | R(12) | R(13)},
+    [PUSH] = {"strip_push", RECORD | R(BAD_VALUE) | R(FULL)},
+    [FLIP] = {"strip_flip", RECORD | R(POSITION)},
+    [FILL] = {"strip_fill", RECORD | R(BAD_VALUE) | R(SPAN) | R(POSITION)},
+    [TRUNCATE] = {"strip_truncate", RECORD | R(POSITION)},
+    [CLEAR] = {"image_clear", R(NO_ROOM)},
+    [FREEZE] = {"image_freeze", HANDLE | R(UNSOUND) | R(BAD_LABEL) | R(LABEL_PRESENT) | R(NO_ROOM)},
     [OPEN] = {"image_open", OPENING},
-    [ROW_GET] = {"image_row_get", OPENING | R(4)},
-    [ROW_RANK] = {"image_row_rank", OPENING | R(8) | R(4) | R(15)},
-    [ROW_SELECT] = {"image_row_select", OPENING | R(8) | R(6) | R(15)},
-    [PART_GET] = {"image_part_get", R(10) | R(4)},
-    [PART_RANK] = {"image_part_rank", R(10) | R(8) | R(4) | R(15)},
-    [PART_SELECT] = {"image_part_select", R(10) | R(8) | R(6) | R(15)},
-    [OPENED_GET] = {"image_opened_get", R(10) | R(4)},
-    [OPENED_RANK] = {"image_opened_rank", R(10) | R(8) | R(4) | R(15)},
-    [OPENED_SELECT] = {"image_opened_select", R(10) | R(8) | R(6) | R(15)},
-    [EXECUTE] = {"strip_execute", RECORD | R(13)},
+    [ROW_GET] = {"image_row_get", OPENING | R(POSITION)},
+    [ROW_RANK] = {"image_row_rank", OPENING | R(BAD_VALUE) | R(POSITION) | R(WRONG_ROW)},
+    [ROW_SELECT] = {"image_row_select", OPENING | R(BAD_VALUE) | R(NOT_FOUND) | R(WRONG_ROW)},
+    [PART_GET] = {"image_part_get", R(UNSOUND) | R(POSITION)},
+    [PART_RANK] = {"image_part_rank", R(UNSOUND) | R(BAD_VALUE) | R(POSITION) | R(WRONG_ROW)},
+    [PART_SELECT] = {"image_part_select", R(UNSOUND) | R(BAD_VALUE) | R(NOT_FOUND) | R(WRONG_ROW)},
+    [OPENED_GET] = {"image_opened_get", R(UNSOUND) | R(POSITION)},
+    [OPENED_RANK] = {"image_opened_rank", R(UNSOUND) | R(BAD_VALUE) | R(POSITION) | R(WRONG_ROW)},
+    [OPENED_SELECT] = {"image_opened_select", R(UNSOUND) | R(BAD_VALUE) | R(NOT_FOUND) | R(WRONG_ROW)},
+    [EXECUTE] = {"strip_execute", RECORD | R(NO_ROOM)},
     [STEP] = {"strip_step", 0xfffe},
-    [INSPECT] = {"strip_inspect", R(10) | R(15)},
-    [ROW_COUNT] = {"strip_row_count", OPENING | R(8) | R(4) | R(15)},
-    [ROW_FIND] = {"strip_row_find", OPENING | R(8) | R(6) | R(15)},
-    [ROW_LOOK] = {"strip_row_look", OPENING | R(4)},
+    [INSPECT] = {"strip_inspect", R(UNSOUND) | R(WRONG_ROW)},
+    [ROW_COUNT] = {"strip_row_count", OPENING | R(BAD_VALUE) | R(POSITION) | R(WRONG_ROW)},
+    [ROW_FIND] = {"strip_row_find", OPENING | R(BAD_VALUE) | R(NOT_FOUND) | R(WRONG_ROW)},
+    [ROW_LOOK] = {"strip_row_look", OPENING | R(POSITION)},
 };
 
 static uint64_t calls[CALLS];
 static unsigned met[CALLS];
 
+/* The round under way. */
+static const char *side;
+static uint64_t seed, round_number;
+
 static void expect(enum call call, int holds, const char *what)
 {
     if (holds)
         return;
-    printf("%s, call %" PRIu64 ": %s\n", functions[call].name, calls[call], what);
+    printf("seed %" PRIu64 ", round %" PRIu64 ": %s, call %" PRIu64 ": %s\n", seed, round_number, functions[call].name,
+           calls[call], what);
+    printf("this round alone: guarded %s 0 %" PRIu64 " %" PRIu64 "\n", side, seed, round_number);
     fflush(stdout);
     abort();
 }
@@ -94,13 +100,24 @@ static void note(enum call call, uint64_t refusal)
 /* Notes an answer, a refusal as 2^32 plus its number, and answers it. */
 static uint64_t told(enum call call, uint64_t answer)
 {
-    note(call, answer < WIDE ? 0 : answer == WIDE ? 99 : answer - WIDE);
+    note(call, !is_refused(answer) ? 0 : answer == WIDE ? 99 : answer - WIDE);
     return answer;
 }
 
 /* ---- numbers drawn */
 
 static uint64_t state;
+
+/* The start of a round, other than 0: seed and number are spread over all 64 bits. */
+static void begin_round(uint64_t number)
+{
+    round_number = number;
+    state = seed * UINT64_C(0x9e3779b97f4a7c15) + number;
+    state = (state ^ state >> 30) * UINT64_C(0xbf58476d1ce4e5b9);
+    state = (state ^ state >> 27) * UINT64_C(0x94d049bb133111eb);
+    state ^= state >> 31;
+    state = state == 0 ? 1 : state;
+}
 
 static uint64_t number(void)
 {
@@ -121,8 +138,7 @@ static int one_in(unsigned n)
 
 static uint64_t huge(void)
 {
-    static const uint64_t list[] = {WIDE, WIDE + 1, UINT64_C(1) << 63, UINT64_MAX - 511, UINT64_MAX - 1, UINT64_MAX};
-    return list[below(6)];
+    return far[below(COUNT_OF(far))];
 }
 
 static uint64_t near(uint64_t n)
@@ -223,21 +239,12 @@ struct record {
     struct lent words, counters;
 };
 
-static size_t counters_of(size_t capacity)
-{
-    size_t nodes = 0, children = capacity / 512;
-    do {
-        children = (children + 63) / 64;
-        nodes += children;
-    } while (children > 1);
-    return 72 * nodes;
-}
-
 /* A handle as passed: mostly the record's. */
 static size_t some_capacity(const struct record *r)
 {
-    static const size_t list[] = {0, 1, 511, 513, MOST_CAPACITY + 512, SIZE_MAX, SIZE_MAX - 511, (size_t)1 << 32};
-    return one_in(16) ? (one_in(4) ? r->capacity + 512 : list[below(8)]) : r->capacity;
+    if (!one_in(16))
+        return r->capacity;
+    return one_in(4) ? r->capacity + 512 : bad_capacities[below(COUNT_OF(bad_capacities))];
 }
 
 static size_t some_length(const struct record *r)
@@ -337,20 +344,37 @@ static void change(struct record *r, enum call call)
         expect(call, out[3] == c && out[4] == n, "refused, and another handle given back");
 }
 
-/* The calls that only read a record. */
+/* look, next and prior, held to the judge. */
+static void read_words(struct record *r, enum call call)
+{
+    size_t c = some_capacity(r), n = some_length(r), i = position(r->length);
+    uint64_t v = value(), answer, wanted;
+    struct row room;
+    struct opened strip = open_strip(&room, c, n, r->words.write, r->words.length / 8);
+    if (call == GET) {
+        answer = strip_get(c, n, WORDS(r), i);
+        wanted = get_answer(strip, i);
+    } else if (call == SUCCESSOR) {
+        answer = strip_successor(c, n, WORDS(r), v, i);
+        wanted = successor_answer(strip, v, i);
+    } else {
+        answer = strip_predecessor(c, n, WORDS(r), v, i);
+        wanted = predecessor_answer(strip, v, i);
+    }
+    expect(call, told(call, answer) == wanted, "another answer");
+}
+
+/* count, find and check: within their bounds. */
 static void read_record(struct record *r, enum call call)
 {
     size_t c = some_capacity(r), n = some_length(r), i = position(r->length);
-    uint64_t v = value(), answer, most = WIDE;
+    uint64_t v = value(), answer, most;
     switch (call) {
-    case GET: answer = strip_get(c, n, WORDS(r), i), most = 1; break;
-    case SUCCESSOR: answer = strip_successor(c, n, WORDS(r), v, i), most = n - 1; break;
-    case PREDECESSOR: answer = strip_predecessor(c, n, WORDS(r), v, i), most = i - 1; break;
     case RANK: answer = strip_rank(c, n, WORDS(r), COUNTERS(r), v, i), most = i; break;
     case SELECT: answer = strip_select(c, n, WORDS(r), COUNTERS(r), v, i), most = n - 1; break;
     default: answer = strip_verify(c, n, WORDS(r), COUNTERS(r)), most = n; break;
     }
-    if (told(call, answer) < WIDE)
+    if (!is_refused(told(call, answer)))
         expect(call, answer <= most, "an answer out of its bounds");
 }
 
@@ -358,18 +382,15 @@ static void select_in_word(void)
 {
     uint64_t x = one_in(4) ? huge() : number() & (one_in(2) ? number() : UINT64_MAX);
     uint64_t k = one_in(4) ? position(64) : below(64);
-    uint64_t p = told(SELECT_IN_WORD, strip_select_in_word(x, k)), before = 0;
-    expect(SELECT_IN_WORD, p <= 64, "a position past 64");
-    for (uint64_t b = 0; b < p && b < 64; b++)
-        before += x >> b & 1;
-    expect(SELECT_IN_WORD, p == 64 ? before <= k : before == k && (x >> p & 1) == 1, "another position");
+    uint64_t p = told(SELECT_IN_WORD, strip_select_in_word(x, k));
+    expect(SELECT_IN_WORD, p == word_select_answer(x, k), "another position");
 }
 
 static size_t drawn_capacity(void)
 {
-    static const size_t list[] = {32768, 33280, 65536, 66048};
+    static const size_t list[] = {ONE_LEVEL, TWO_LEVELS, 65536, 66048};
     if (one_in(400))
-        return one_in(2) ? 2097152 : 2097664;
+        return one_in(2) ? TWO_LEVELS_FULL : THREE_LEVELS;
     return one_in(6) ? list[below(4)] : 512 * (1 + below(9));
 }
 
@@ -378,12 +399,11 @@ static struct record drawn_record(size_t capacity)
 {
     struct record r = {capacity, one_in(4) ? capacity : below(capacity + 1), {0}, {0}};
     r.words = lend(&words_memory, 8 * size_near(capacity / 64), at_end);
-    r.counters = lend(&counters_memory, 4 * size_near(counters_of(capacity)), at_end);
+    r.counters = lend(&counters_memory, 4 * size_near(counter_count_of(capacity)), at_end);
     unsigned kind = below(4);
     bytes_drawn(r.words.write, r.words.length, below(4));
-    if (kind == 0)
-        bytes_drawn(r.counters.write, r.counters.length, below(4));
-    if (kind == 0 || r.words.length != capacity / 8 || r.counters.length != 4 * counters_of(capacity))
+    bytes_drawn(r.counters.write, r.counters.length, below(4));
+    if (kind == 0 || r.words.length != capacity / 8 || r.counters.length != 4 * counter_count_of(capacity))
         return r;
     uint64_t out[5];
     strip_truncate(capacity, r.length, WORDS_MUT(&r), COUNTERS_MUT(&r), r.length, out, 5);
@@ -395,11 +415,14 @@ static struct record drawn_record(size_t capacity)
 
 static void record_calls(struct record *r)
 {
-    static const enum call reads[] = {GET, SUCCESSOR, PREDECESSOR, RANK, SELECT, VERIFY};
+    static const enum call words[] = {GET, SUCCESSOR, PREDECESSOR}, reads[] = {RANK, SELECT, VERIFY};
     static const enum call changes[] = {PUSH, FLIP, PUSH, FLIP, FILL, TRUNCATE, CREATE};
     unsigned many = r->capacity > 100000 ? 2 : 20;
     for (unsigned k = 0; k < many; k++) {
-        read_record(r, reads[below(6)]);
+        if (one_in(2))
+            read_words(r, words[below(3)]);
+        else
+            read_record(r, reads[below(3)]);
         if (one_in(2))
             change(r, changes[below(one_in(4) ? 7 : 4)]);
     }
@@ -437,29 +460,14 @@ static void clear(void)
     if (image.length < WIDE - PAGE)
         keep(&image_copy, image);
     uint64_t answer = told(CLEAR, image_clear(lent_at(image, 1), image.length));
-    int fit = image.length >= 16 && image.length <= WIDE;
-    expect(CLEAR, answer == (fit ? 16 : REFUSED(13)), "another answer");
+    int fit = !is_refused(clear_answer(image.length));
+    expect(CLEAR, answer == clear_answer(image.length), "another answer");
     size_t from = fit ? 16 : 0;
     if (image.length > from && image.length < WIDE - PAGE)
         expect(CLEAR, memcmp(image_copy.bytes + from, image.write + from, image.length - from) == 0,
                "wrote past the header");
     settle();
     expect(CLEAR, !fit || (judged.sound && judged.count == 0), "not an empty chain");
-}
-
-/* The answer of freeze, by its line. */
-static uint64_t freeze_answer(size_t c, size_t n, const struct record *r, uint64_t label, uint64_t *start)
-{
-    const struct row *row, *last = judged.count == 0 ? NULL : &judged.rows[judged.count - 1];
-    if (c % 512 != 0 || c < 512 || c > MOST_CAPACITY || n > c)
-        return REFUSED(1);
-    if (r->words.length != c / 8)
-        return REFUSED(2);
-    uint64_t refused = opened(&judged, label, &row);
-    if (refused != REFUSED(14))
-        return refused == 0 ? REFUSED(12) : refused;
-    *start = last == NULL ? 16 : last->start + record_size(last->length);
-    return *start + record_size(n) > image.length ? REFUSED(13) : *start / 16;
 }
 
 /* The row just written is right, and has the strip's bits; no byte changed but its own and those of one index. */
@@ -481,15 +489,16 @@ static void freeze_wrote(const struct record *r, size_t n, uint64_t start, uint6
 static void freeze(const struct record *r, uint64_t label)
 {
     size_t c = some_capacity(r), n = some_length(r);
-    uint64_t start = 0, index = judged.count == 0 ? 0 : judged.rows[judged.count - 1].start;
-    uint64_t answer = freeze_answer(c, n, r, label, &start);
+    uint64_t start = next_start(&judged), index = judged.count == 0 ? 0 : judged.rows[judged.count - 1].start;
+    uint64_t refused = handle_refused(c, n, r->words.length / 8);
+    uint64_t answer = refused != 0 ? refused : freeze_answer(&judged, image.length, n, label);
     gaps(open_bytes);
     if (image.length < WIDE - PAGE)
         keep(&image_copy, image);
     uint8_t *at = lent_at(image, 1);
     expect(FREEZE, told(FREEZE, image_freeze(c, n, WORDS(r), at, image.length, label)) == answer, "another answer");
     settle();
-    if (answer < WIDE)
+    if (!is_refused(answer))
         freeze_wrote(r, n, start, index);
     else
         expect(FREEZE, image.length >= WIDE - PAGE || same(&image_copy, image), "refused, and changed the image");
@@ -498,7 +507,7 @@ static void freeze(const struct record *r, uint64_t label)
 /* Makes a record of the chain a gap, or a wrong row, or breaks the chain. */
 static void damage(void)
 {
-    static const uint64_t list[] = {0, 1, 64, 65, 4096, 4097, MOST_ROW, MOST_ROW + 1, UINT32_MAX, 1 << 28};
+    static const uint64_t list[] = {0, 1, 64, 65, 4096, 4097, LARGEST, LARGEST + 1, UINT32_MAX, 1 << 28};
     gaps(open_bytes);
     unsigned r = judged.count == 0 ? 0 : below(judged.count);
     uint64_t at = judged.count == 0 ? 0 : judged.rows[r].start;
@@ -520,8 +529,7 @@ static void damage(void)
 
 static void drawn_image(const struct record *r)
 {
-    static const size_t sizes[] = {0, 1, 15, 16, 17, 31, 32, 33, 559, 560};
-    size_t size = one_in(8) ? sizes[below(10)] : 16 + below(one_in(4) ? 600 : one_in(4) ? 60000 : 6000);
+    size_t size = one_in(8) ? sizes[below(COUNT_OF(sizes))] : 16 + below(one_in(4) ? 600 : one_in(4) ? 60000 : 6000);
     image = lend(&image_memory, size, at_end);
     bytes_drawn(image.write, size, below(4));
     settle();
@@ -540,43 +548,43 @@ static void drawn_image(const struct record *r)
 
 #define IMAGE ((const uint8_t *)lent_at(image, 0)), image.length
 
-/* What readings of a row may tell, on the row or after a refused opening. */
-static void hold_get(enum call call, const struct row *row, uint64_t refused, uint64_t i, uint64_t answer)
+static void hold_get(enum call call, struct opened o, uint64_t i, uint64_t answer)
 {
-    expect(call, told(call, answer) == (row == NULL ? refused : look_answer(row, i)), "another answer");
+    expect(call, told(call, answer) == get_answer(o, i), "another answer");
 }
 
-static void hold_rank(enum call call, const struct row *row, uint64_t refused, uint64_t v, uint64_t i, uint64_t answer)
+static void hold_rank(enum call call, struct opened o, uint64_t v, uint64_t i, uint64_t answer)
 {
-    told(call, answer);
-    expect(call, row == NULL ? answer == refused : count_allowed(row, v, i, answer), "another answer");
+    expect(call, rank_allowed(o, v, i, told(call, answer)), "another answer");
 }
 
-static void hold_select(enum call call, const struct row *row, uint64_t refused, uint64_t v, uint64_t k,
-                        uint64_t answer)
+static void hold_select(enum call call, struct opened o, uint64_t v, uint64_t k, uint64_t answer)
 {
-    told(call, answer);
-    expect(call, row == NULL ? answer == refused : find_allowed(row, v, k, answer), "another answer");
+    expect(call, select_allowed(o, v, k, told(call, answer)), "another answer");
 }
 
 /* All readings by label: the display's, those of the testing library, and on an opened row, which has 10 alone. */
+static void read_label_at(uint64_t label, uint64_t v, uint64_t i, uint64_t k)
+{
+    struct opened o = open_row(&judged, label), held = {o.row, REFUSED(UNSOUND)};
+    expect(OPEN, told(OPEN, image_open(IMAGE, label)) == open_answer(o), "another answer");
+    expect(INSPECT, told(INSPECT, strip_inspect(IMAGE)) == inspect_answer(&judged), "another answer");
+    hold_get(ROW_LOOK, o, i, strip_row_look(IMAGE, label, i));
+    hold_rank(ROW_COUNT, o, v, i, strip_row_count(IMAGE, label, v, i));
+    hold_select(ROW_FIND, o, v, k, strip_row_find(IMAGE, label, v, k));
+    hold_get(ROW_GET, o, i, image_row_get(IMAGE, label, i));
+    hold_rank(ROW_RANK, o, v, i, image_row_rank(IMAGE, label, v, i));
+    hold_select(ROW_SELECT, o, v, k, image_row_select(IMAGE, label, v, k));
+    hold_get(OPENED_GET, held, i, image_opened_get(IMAGE, label, i));
+    hold_rank(OPENED_RANK, held, v, i, image_opened_rank(IMAGE, label, v, i));
+    hold_select(OPENED_SELECT, held, v, k, image_opened_select(IMAGE, label, v, k));
+}
+
 static void read_label(uint64_t label)
 {
-    const struct row *row;
-    uint64_t no = opened(&judged, label, &row), length = row == NULL ? 600 : row->length;
-    uint64_t v = value(), i = position(length), k = position(one_in(2) ? length : length / 2);
-    uint64_t start = told(OPEN, image_open(IMAGE, label)), count = told(INSPECT, strip_inspect(IMAGE));
-    expect(OPEN, start == (row == NULL ? no : row->start), "another answer");
-    expect(INSPECT, count == inspect_answer(&judged), "another answer");
-    hold_get(ROW_LOOK, row, no, i, strip_row_look(IMAGE, label, i));
-    hold_rank(ROW_COUNT, row, no, v, i, strip_row_count(IMAGE, label, v, i));
-    hold_select(ROW_FIND, row, no, v, k, strip_row_find(IMAGE, label, v, k));
-    hold_get(ROW_GET, row, no, i, image_row_get(IMAGE, label, i));
-    hold_rank(ROW_RANK, row, no, v, i, image_row_rank(IMAGE, label, v, i));
-    hold_select(ROW_SELECT, row, no, v, k, image_row_select(IMAGE, label, v, k));
-    hold_get(OPENED_GET, row, REFUSED(10), i, image_opened_get(IMAGE, label, i));
-    hold_rank(OPENED_RANK, row, REFUSED(10), v, i, image_opened_rank(IMAGE, label, v, i));
-    hold_select(OPENED_SELECT, row, REFUSED(10), v, k, image_opened_select(IMAGE, label, v, k));
+    const struct row *row = open_row(&judged, label).row;
+    uint64_t length = row == NULL ? 600 : row->length, v = value(), i = position(length);
+    read_label_at(label, v, i, position(one_in(2) ? length : length / 2));
 }
 
 /* A row's own part, alone in its memory; at times of another size, with another length held, or damaged. */
@@ -592,14 +600,13 @@ static void read_part(void)
     memcpy(part.write, image.write + whole->start, lent_size < size ? lent_size : size);
     if (one_in(6) && lent_size > 16)
         part.write[4 + below(one_in(2) ? 12 : lent_size - 4)] ^= one_in(2) ? 255 : 1 << below(8);
-    struct judged one = {1, 0, {{0}}};
-    int record = take_record(&one, part.write, lent_size, 0) && record_size(one.rows[0].length) == lent_size;
-    const struct row *row = record && one.rows[0].length == n ? &one.rows[0] : NULL;
+    struct judged one;
+    struct opened o = open_part(&one, part.write, lent_size, n);
     const uint8_t *at = lent_at(part, 0);
     uint64_t v = value(), i = position(whole->length), k = position(whole->length);
-    hold_get(PART_GET, row, REFUSED(10), i, image_part_get(at, lent_size, n, i));
-    hold_rank(PART_RANK, row, REFUSED(10), v, i, image_part_rank(at, lent_size, n, v, i));
-    hold_select(PART_SELECT, row, REFUSED(10), v, k, image_part_select(at, lent_size, n, v, k));
+    hold_get(PART_GET, o, i, image_part_get(at, lent_size, n, i));
+    hold_rank(PART_RANK, o, v, i, image_part_rank(at, lent_size, n, v, i));
+    hold_select(PART_SELECT, o, v, k, image_part_select(at, lent_size, n, v, k));
     give_back(part);
 }
 
@@ -607,30 +614,38 @@ static void read_part(void)
 
 static int changes_record(uint64_t op)
 {
-    return op % 17 < 5;
+    return op % OPCODES <= OP_TRUNCATE;
 }
 
 static int changes_image(uint64_t op)
 {
-    return op % 17 == 11 || op % 17 == 12;
+    return op % OPCODES == OP_CLEAR || op % OPCODES == OP_FREEZE;
 }
 
-static uint64_t first_argument(const struct record *r, uint64_t op)
+static uint64_t first_argument(const struct record *r, enum opcode op)
 {
-    if (op == 0)
-        return some_capacity(r);
-    if (op == 12 || op >= 14)
-        return label_near(&judged);
-    return op == 1 || (op >= 6 && op <= 9) ? value() : position(r->length);
+    switch (op) {
+    case OP_CREATE: return some_capacity(r);
+    case OP_FREEZE:
+    case OP_ROW_RANK:
+    case OP_ROW_SELECT:
+    case OP_ROW_GET: return label_near(&judged);
+    case OP_PUSH:
+    case OP_RANK:
+    case OP_SELECT:
+    case OP_SUCCESSOR:
+    case OP_PREDECESSOR: return value();
+    default: return position(r->length);
+    }
 }
 
 static void drawn_call(const struct record *r, uint64_t call[4])
 {
-    uint64_t op = below(17);
-    call[0] = one_in(4) ? op + 17 * below(UINT64_MAX / 17) : op;
+    enum opcode op = (enum opcode)below(OPCODES);
+    call[0] = op + (one_in(4) ? OPCODES * below(UINT64_MAX / OPCODES) : 0);
     call[1] = first_argument(r, op);
-    call[2] = op == 14 || op == 15 ? value() : position(r->length);
-    call[3] = op == 3 ? value() : position(r->length);
+    call[2] = op == OP_ROW_RANK || op == OP_ROW_SELECT ? value() : position(r->length);
+    call[3] = op == OP_FILL ? value() : position(r->length);
 }
 
 static void keep_all(const struct record *r)
@@ -716,16 +731,16 @@ static void execute(struct record *r)
 /* A record of the largest capacity, frozen into an image that it fills. */
 static void largest_record(void)
 {
-    struct record r = {MOST_CAPACITY, MOST_CAPACITY, {0}, {0}};
-    r.words = lend(&words_memory, MOST_CAPACITY / 8, at_end);
+    struct record r = {LARGEST, LARGEST, {0}, {0}};
+    r.words = lend(&words_memory, LARGEST / 8, at_end);
     r.counters = lend(&counters_memory, 4 * MOST_COUNTERS, at_end);
     memset(r.words.write, 0x5a, r.words.length);
     uint64_t out[5];
     strip_truncate(r.capacity, r.length, WORDS_MUT(&r), COUNTERS_MUT(&r), r.length, out, 5);
     note(TRUNCATE, out[0]);
-    expect(TRUNCATE, out[1] == MOST_CAPACITY / 2, "another number of ones");
-    uint64_t last = told(SELECT, strip_select(r.capacity, r.length, WORDS(&r), COUNTERS(&r), 1, MOST_CAPACITY / 2 - 1));
-    expect(SELECT, last == MOST_CAPACITY - 2, "another position");
+    expect(TRUNCATE, out[1] == LARGEST / 2, "another number of ones");
+    uint64_t last = told(SELECT, strip_select(r.capacity, r.length, WORDS(&r), COUNTERS(&r), 1, LARGEST / 2 - 1));
+    expect(SELECT, last == LARGEST - 2, "another position");
     for (unsigned k = 0; k < 6; k++) {
         read_record(&r, RANK);
         read_record(&r, SELECT);
@@ -738,6 +753,8 @@ static void largest_record(void)
         freeze(&r, 64);
     for (unsigned k = 0; k < 3; k++)
         read_label(64);
+    for (uint64_t k = 0; k < LARGEST / 2; k += LARGEST / 16 - 1)
+        read_label_at(64, k % 2, k, k);
     gaps(open_bytes);
     give_back(image);
     give_back(r.words);
@@ -794,34 +811,63 @@ static void one_round(void)
     give_back(r.counters);
 }
 
+/* Round 0: the largest record and the largest images. */
+static void largest_round(void)
+{
+    largest_record();
+    for (int off = -1; off <= 1; off++)
+        for (uint64_t length = 0; length <= 300; length += 300)
+            largest_image(WIDE + off, length);
+}
+
+static void run_round(uint64_t number)
+{
+    begin_round(number);
+    if (number == 0)
+        largest_round();
+    else
+        one_round();
+}
+
+/* Whether every function was accepted, and met every refusal of its line. */
+static int all_met(void)
+{
+    for (int call = 0; call < CALLS; call++) {
+        if (met[call] != (functions[call].refusals | 1)) {
+            printf("%s met %x, not %x\n", functions[call].name, met[call], functions[call].refusals | 1);
+            return 0;
+        }
+    }
+    return 1;
+}
+
 int main(int count, char **args)
 {
-    must(count == 4 && (strcmp(args[1], "end") == 0 || strcmp(args[1], "start") == 0), "guarded end|start ROUNDS SEED");
-    at_end = strcmp(args[1], "end") == 0;
-    state = strtoull(args[3], NULL, 10);
-    must(state != 0, "a seed other than 0");
-    words_memory = memory_of(MOST_CAPACITY / 8);
+    must((count == 4 || count == 5) && (strcmp(args[1], "end") == 0 || strcmp(args[1], "start") == 0),
+         "guarded end|start ROUNDS SEED [ROUND]");
+    side = args[1];
+    at_end = strcmp(side, "end") == 0;
+    seed = strtoull(args[3], NULL, 10);
+    words_memory = memory_of(LARGEST / 8);
     counters_memory = memory_of(4 * MOST_COUNTERS);
     image_memory = memory_of(MOST_IMAGE);
     part_memory = memory_of(MOST_IMAGE);
     out_memory = memory_of(PAGE);
     script_memory = memory_of(PAGE);
-    largest_record();
-    for (int off = -1; off <= 1; off++)
-        for (uint64_t length = 0; length <= 300; length += 300)
-            largest_image(WIDE + off, length);
-    for (uint64_t rounds = strtoull(args[2], NULL, 10); rounds > 0; rounds--)
-        one_round();
+    if (count == 5) {
+        run_round(strtoull(args[4], NULL, 10));
+        return 0;
+    }
+    for (uint64_t round = 0, rounds = strtoull(args[2], NULL, 10); round <= rounds; round++)
+        run_round(round);
 
     uint64_t all = 0;
     for (int call = 0; call < CALLS; call++) {
         printf("  %-22s %9" PRIu64 " calls\n", functions[call].name, calls[call]);
         all += calls[call];
-        if (met[call] != (functions[call].refusals | 1)) {
-            printf("%s met %x, not %x\n", functions[call].name, met[call], functions[call].refusals | 1);
-            return 1;
-        }
     }
-    printf("buffers at the %s of a page, seed %s: %" PRIu64 " calls of %d functions\n", args[1], args[3], all, CALLS);
+    if (!all_met())
+        return 1;
+    printf("buffers at the %s of a page, seed %s: %" PRIu64 " calls of %d functions\n", side, args[3], all, CALLS);
     return 0;
 }

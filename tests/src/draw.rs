@@ -1,17 +1,17 @@
 //! Calls drawn at random, their arguments around what they meet.
-use crate::paper::{number_of, Row};
+use crate::borders::{self, BAD_CAPACITIES, BAD_VALUES, FAR, LARGEST, UNITS};
+use crate::call::{Call, Opcode, CALLS};
+use crate::model::number_of;
+use crate::paper::Frozen;
 use crate::random::Random;
-use crate::script::{Call, CALLS};
 
-const HUGE: [u64; 6] = [1 << 32, (1 << 32) + 1, 1 << 63, u64::MAX - 511, u64::MAX - 1, u64::MAX];
-const BAD_VALUES: [u64; 6] = [2, 3, 1 << 32, (1 << 32) + 1, 1 << 63, u64::MAX];
-const UNITS: [u64; 6] = [8, 64, 512, 4096, 32_768, 2_097_152];
+const WIDE: u64 = borders::WIDE as u64;
 
 /// What a call meets: the handle's capacity, the strip, and the rows.
 pub struct Scene<'a> {
     pub capacity: u64,
     pub strip: &'a [bool],
-    pub rows: &'a [Row],
+    pub rows: &'a [Frozen],
 }
 
 fn one_of<T: Copy>(random: &mut Random, list: &[T]) -> T {
@@ -20,6 +20,10 @@ fn one_of<T: Copy>(random: &mut Random, list: &[T]) -> T {
 
 fn below(random: &mut Random, n: u64) -> u64 {
     random.below(n as usize) as u64
+}
+
+fn far(random: &mut Random) -> u64 {
+    one_of(random, &FAR) as u64
 }
 
 /// A number at most one off another.
@@ -39,12 +43,12 @@ pub fn value(random: &mut Random) -> u64 {
 /// A position on a list of bits under a capacity: inside it, beside its end, beside a multiple of a unit, or far away.
 pub fn position(random: &mut Random, capacity: u64, length: u64) -> u64 {
     match random.below(16) {
-        0 => one_of(random, &HUGE),
-        1 => (1 << 32) + below(random, length + 1),
+        0 => far(random),
+        1 => WIDE + below(random, length + 1),
         2 => near(random, capacity),
         3 | 4 => near(random, length),
         5..=7 => {
-            let unit = one_of(random, &UNITS);
+            let unit = one_of(random, &UNITS) as u64;
             let edge = unit * below(random, length / unit + 2);
             near(random, edge)
         }
@@ -57,8 +61,8 @@ pub fn position(random: &mut Random, capacity: u64, length: u64) -> u64 {
 fn index(random: &mut Random, bits: &[bool], v: u64) -> u64 {
     let number = number_of(bits, v == 1);
     match random.below(16) {
-        0 => one_of(random, &HUGE),
-        1 => (1 << 32) + below(random, number + 1),
+        0 => far(random),
+        1 => WIDE + below(random, number + 1),
         2..=4 => near(random, number),
         5 => near(random, bits.len() as u64),
         6 => below(random, 3),
@@ -68,13 +72,13 @@ fn index(random: &mut Random, bits: &[bool], v: u64) -> u64 {
 
 /// A label: of about `share` in 100 that of a row, if there is one, else any from 1 to 64; seldom none, or a row's plus
 /// 2^32.
-fn label(random: &mut Random, rows: &[Row], share: usize) -> u64 {
+fn label(random: &mut Random, rows: &[Frozen], share: usize) -> u64 {
     let held = if rows.is_empty() { 3 } else { rows[random.below(rows.len())].0 };
     match random.below(24) {
-        0 => (1 << 32) + held,
+        0 => WIDE + held,
         1 => one_of(random, &[0, 65, 128 + held, 256 + held]),
         2 => one_of(random, &[1, 64]),
-        3 => one_of(random, &HUGE),
+        3 => far(random),
         _ if random.below(100) < share => held,
         _ => 1 + below(random, 64),
     }
@@ -87,9 +91,10 @@ fn capacity(random: &mut Random, own: u64) -> u64 {
         1..=3 => own ^ 1,
         4..=6 => own.wrapping_add(512),
         7..=9 => own.wrapping_sub(512),
-        10..=12 => own.wrapping_add(1 << 32),
-        13..=15 => one_of(random, &HUGE),
-        16..=18 => one_of(random, &[0, 64, 511, 134_217_728, 134_218_240]),
+        10..=12 => own.wrapping_add(WIDE),
+        13..=15 => far(random),
+        16 | 17 => one_of(random, &BAD_CAPACITIES) as u64,
+        18 => LARGEST as u64,
         _ => 512 * below(random, 600),
     }
 }
@@ -122,39 +127,41 @@ fn row<'a>(scene: &Scene<'a>, label: u64) -> &'a [bool] {
 }
 
 /// The arguments of a call; those that it does not take are any.
-fn arguments(random: &mut Random, code: usize, scene: &Scene) -> [u64; 3] {
+fn arguments(random: &mut Random, opcode: Opcode, scene: &Scene) -> [u64; 3] {
     let any = if random.below(2) == 0 { 0 } else { random.number() };
     let (v, n) = (value(random), scene.strip.len() as u64);
-    match code {
-        0 => [capacity(random, scene.capacity), any, any],
-        1 => [v, any, any],
-        2 | 5 => [position(random, scene.capacity, n), any, any],
-        3 => {
+    match opcode {
+        Opcode::Create => [capacity(random, scene.capacity), any, any],
+        Opcode::Push => [v, any, any],
+        Opcode::Flip | Opcode::Get => [position(random, scene.capacity, n), any, any],
+        Opcode::Fill => {
             let (a, b) = span(random, scene);
             [a, b, v]
         }
-        4 => [kept(random, scene), any, any],
-        6 | 8 | 9 => [v, position(random, scene.capacity, n), any],
-        7 => [v, index(random, scene.strip, v), any],
-        12 => [label(random, scene.rows, 20), any, any],
-        14..=16 => {
+        Opcode::Truncate => [kept(random, scene), any, any],
+        Opcode::Rank | Opcode::Successor | Opcode::Predecessor => [v, position(random, scene.capacity, n), any],
+        Opcode::Select => [v, index(random, scene.strip, v), any],
+        Opcode::Freeze => [label(random, scene.rows, 20), any, any],
+        Opcode::RowRank | Opcode::RowSelect | Opcode::RowGet => {
             let label = label(random, scene.rows, 80);
             let bits = row(scene, label);
             let i = position(random, scene.capacity, bits.len() as u64);
-            match code {
-                14 => [label, v, i],
-                15 => [label, v, index(random, bits, v)],
+            match opcode {
+                Opcode::RowRank => [label, v, i],
+                Opcode::RowSelect => [label, v, index(random, bits, v)],
                 _ => [label, i, any],
             }
         }
-        _ => [any; 3],
+        Opcode::Verify | Opcode::Clear | Opcode::Inspect => [any; 3],
     }
 }
 
 /// The call of an opcode; the opcode has a multiple of 17 added at times.
-pub fn call(random: &mut Random, code: usize, scene: &Scene) -> Call {
-    let [x, y, z] = arguments(random, code, scene);
-    let most = (u64::MAX - code as u64) / CALLS as u64;
-    let times = if random.below(4) == 0 { random.number() % (most + 1) } else { 0 };
-    Call { op: code as u64 + CALLS as u64 * times, x, y, z }
+pub fn call(random: &mut Random, opcode: Opcode, scene: &Scene) -> Call {
+    let mut call = Call::new(opcode, arguments(random, opcode, scene));
+    if random.below(4) == 0 {
+        let most = (u64::MAX - call.op) / CALLS as u64;
+        call.op += CALLS as u64 * (random.number() % (most + 1));
+    }
+    call
 }

@@ -1,8 +1,9 @@
-//! A plain writer and reader of the image's layout.
-use crate::model::{self, Answer};
+//! The image by the scope document's layout, and the calls on its bytes.
+use crate::borders::{LARGEST, MOST_BYTES};
+use crate::model::{self, number_of};
+use crate::refusal::{Answer, Refusal};
 use crate::Handle;
-
-pub const MOST_ROW: usize = 134_217_728;
+use Refusal::*;
 
 /// Four bytes as a number.
 pub fn number(bytes: &[u8], at: usize) -> usize {
@@ -20,7 +21,17 @@ pub fn size(length: usize) -> usize {
 }
 
 fn ones(bits: &[bool]) -> u128 {
-    bits.iter().filter(|&&b| b).count() as u128
+    number_of(bits, true).into()
+}
+
+/// 13 of clear.
+pub fn check_size(bytes: usize) -> Result<(), Refusal> {
+    NoRoom.when(!(16..=MOST_BYTES).contains(&bytes))
+}
+
+/// 11.
+pub fn check_label(label: usize) -> Result<(), Refusal> {
+    BadLabel.when(!(1..=64).contains(&label))
 }
 
 /// A record: next, label, length, ones; the entries; the bits.
@@ -64,12 +75,8 @@ pub fn image(rows: &[(usize, usize, Vec<bool>)], spare: usize) -> Vec<u8> {
 
 /// The places of a sound chain's records.
 pub fn chain(image: &[u8]) -> Option<Vec<usize>> {
-    if image.len() < 16
-        || image.len() > 1 << 32
-        || number(image, 4) != 1
-        || number(image, 8) != 0
-        || number(image, 12) != 0
-    {
+    check_size(image.len()).ok()?;
+    if [4, 8, 12].map(|at| number(image, at)) != [1, 0, 0] {
         return None;
     }
     let mut places: Vec<usize> = Vec::new();
@@ -82,7 +89,8 @@ pub fn chain(image: &[u8]) -> Option<Vec<usize>> {
         let end = at + size(length);
         let next = 16 * number(image, at);
         let met = places.iter().any(|&p| number(image, p + 4) == label);
-        if !(1..=64).contains(&label) || met || length > MOST_ROW || end > image.len() || (next != 0 && next < end) {
+        check_label(label).ok()?;
+        if met || length > LARGEST || end > image.len() || (next != 0 && next < end) {
             return None;
         }
         places.push(at);
@@ -93,35 +101,45 @@ pub fn chain(image: &[u8]) -> Option<Vec<usize>> {
 
 /// Opening: 10, 11, 14, or the record's place.
 pub fn open(image: &[u8], label: usize) -> Answer {
-    let places = chain(image).ok_or(10u64)?;
-    if !(1..=64).contains(&label) {
-        return Err(11);
-    }
+    let places = chain(image).ok_or(Unsound)?;
+    check_label(label)?;
     let found = places.into_iter().find(|&p| number(image, p + 4) == label);
-    found.map(|p| p as u64).ok_or(14)
+    found.map(|p| p as u64).ok_or(LabelAbsent)
+}
+
+/// clear: 13, or 16.
+pub fn clear(image: &mut [u8]) -> Answer {
+    check_size(image.len())?;
+    image[..16].copy_from_slice(&[0, 0, 0, 0, 1, 0, 0, 0, 0, 0, 0, 0, 0, 0, 0, 0]);
+    Ok(16)
 }
 
 /// freeze(label): 1, 2, 10, 11, 12, 13, or the record's unit index. The strip is the first bits of those lent.
 pub fn freeze(h: Handle, lent: &[bool], image: &mut [u8], label: usize) -> Answer {
-    model::check(h, lent.len() / 64)?;
-    let opened = open(image, label);
-    if opened != Err(14) {
-        return Err(opened.err().unwrap_or(12));
+    model::check(h, lent.len() / 64, None)?;
+    match open(image, label) {
+        Ok(_) => return Err(LabelPresent),
+        Err(LabelAbsent) => {}
+        Err(refusal) => return Err(refusal),
     }
     let last = chain(image).unwrap().last().copied();
     let at = last.map_or(16, |p| p + size(number(image, p + 8)));
-    if at + size(h.length) > image.len() {
-        return Err(13);
-    }
+    NoRoom.when(at + size(h.length) > image.len())?;
     store(image, last.unwrap_or(0), at / 16);
     image[at..at + size(h.length)].copy_from_slice(&record(0, label, &lent[..h.length]));
     Ok(at as u64 / 16)
 }
 
-/// A row: its bits, the positions that hold 0 and those that hold 1, and whether it is right.
+/// inspect: 10, 15, or the number of rows.
+pub fn inspect(image: &[u8]) -> Answer {
+    let places = chain(image).ok_or(Unsound)?;
+    WrongRow.when(places.iter().any(|&at| !Row::new(part(image, at)).right))?;
+    Ok(places.len() as u64)
+}
+
+/// A row: its bits, and whether it is right.
 pub struct Row {
     pub bits: Vec<bool>,
-    places: [Vec<usize>; 2],
     pub right: bool,
 }
 
@@ -131,29 +149,8 @@ impl Row {
         let length = number(part, 8);
         let start = 16 + 16 * length.div_ceil(4096);
         let bits: Vec<bool> = (0..length).map(|p| part[start + p / 8] >> (p % 8) & 1 == 1).collect();
-        let places = [false, true].map(|v| (0..length).filter(|&p| bits[p] == v).collect());
         let right = part == record(number(part, 0), number(part, 4), &bits);
-        Row { bits, places, right }
-    }
-
-    /// look(i): 4.
-    pub fn get(&self, i: usize) -> Answer {
-        self.bits.get(i).map(|&b| u64::from(b)).ok_or(4)
-    }
-
-    /// count(v, i) by definition: 8, 4.
-    pub fn rank(&self, v: u64, i: usize) -> Answer {
-        let places = self.places.get(v as usize).ok_or(8u64)?;
-        if i > self.bits.len() {
-            return Err(4);
-        }
-        Ok(places.partition_point(|&p| p < i) as u64)
-    }
-
-    /// find(v, k) by definition: 8, 6.
-    pub fn select(&self, v: u64, k: usize) -> Answer {
-        let places = self.places.get(v as usize).ok_or(8u64)?;
-        places.get(k).map(|&p| p as u64).ok_or(6)
+        Row { bits, right }
     }
 }
 
@@ -163,7 +160,7 @@ pub fn part(image: &[u8], at: usize) -> &[u8] {
 }
 
 /// The row of a label: 10, 11, 14.
-pub fn row(image: &[u8], label: usize) -> Result<Row, u64> {
+pub fn row(image: &[u8], label: usize) -> Result<Row, Refusal> {
     let at = open(image, label)? as usize;
     Ok(Row::new(part(image, at)))
 }

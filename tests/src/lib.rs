@@ -1,5 +1,9 @@
-//! The proved calls, to be compared with a plain model of them: those on words here, those on a record in `record`, those
-//! on an image in `image`, and scripts of all of them in `script`.
+//! The proved calls, to be compared with a plain model of them. The calls: those on words here, those on a record in
+//! `record`, those on an image in `image`, and scripts of all of them in `script`. The model: strips and rows in `model`,
+//! the image's bytes in `layout`, the paper machine in `paper`.
+pub mod borders;
+pub mod call;
+pub mod cases;
 pub mod draw;
 pub mod ffi;
 mod guarded;
@@ -9,10 +13,12 @@ pub mod model;
 pub mod paper;
 pub mod random;
 pub mod record;
+pub mod refusal;
 pub mod script;
 pub mod tally;
 
 use ffi::{strip_get, strip_predecessor, strip_select_in_word, strip_successor};
+use refusal::{answer, Answer};
 
 /// A handle, passed by value.
 #[derive(Clone, Copy, Debug, PartialEq, Eq)]
@@ -41,30 +47,30 @@ impl Lent {
     }
 
     /// look(i)
-    pub fn get(&mut self, h: Handle, i: usize) -> u64 {
+    pub fn get(&mut self, h: Handle, i: usize) -> Answer {
         let (words, count) = self.lend();
         // SAFETY: `words` points to `count` words, which live through the call.
-        let answer = unsafe { strip_get(h.capacity, h.length, words, count, i) };
+        let told = unsafe { strip_get(h.capacity, h.length, words, count, i) };
         self.unchanged();
-        answer
+        answer(told)
     }
 
     /// next(v, i)
-    pub fn successor(&mut self, h: Handle, v: u64, i: usize) -> u64 {
+    pub fn successor(&mut self, h: Handle, v: u64, i: usize) -> Answer {
         let (words, count) = self.lend();
         // SAFETY: as in `get`.
-        let answer = unsafe { strip_successor(h.capacity, h.length, words, count, v, i) };
+        let told = unsafe { strip_successor(h.capacity, h.length, words, count, v, i) };
         self.unchanged();
-        answer
+        answer(told)
     }
 
     /// prior(v, i)
-    pub fn predecessor(&mut self, h: Handle, v: u64, i: usize) -> u64 {
+    pub fn predecessor(&mut self, h: Handle, v: u64, i: usize) -> Answer {
         let (words, count) = self.lend();
         // SAFETY: as in `get`.
-        let answer = unsafe { strip_predecessor(h.capacity, h.length, words, count, v, i) };
+        let told = unsafe { strip_predecessor(h.capacity, h.length, words, count, v, i) };
         self.unchanged();
-        answer
+        answer(told)
     }
 
     // Through a mutable pointer, so that the compiler takes no word to be unchanged without looking.

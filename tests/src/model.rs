@@ -1,23 +1,17 @@
-//! The calls, written plainly: a strip is a list of bits, every search is a loop over positions, and every counter is
-//! summed anew from the children that it gives. An answer is the value, or `Err` of the refusal's number; refusals are
-//! judged in the order of the lines.
-use crate::record::{Change, Reading, Report};
+//! The calls on a strip and on a row, by the scope document's definitions: a strip is a list of bits, every search is a loop
+//! over positions, and every counter is summed anew from the children that it gives. Refusals are judged in the order of the
+//! lines.
+use crate::borders::LARGEST;
+use crate::call::{Call, Opcode};
+use crate::refusal::{Answer, Refusal, Values};
 use crate::Handle;
 use std::ops::Range;
+use Refusal::*;
 
-pub type Answer = Result<u64, u64>;
-
-/// An answer as one number: the value, or 2^32 plus the refusal's number.
-pub fn coded(answer: Answer) -> u64 {
-    match answer {
-        Ok(value) => value,
-        Err(number) => 4_294_967_296 + number,
-    }
-}
+// ---- words
 
 /// The words that hold these bits, 64 to a word; bit 0 of a word has weight 1.
 pub fn words_of(bits: &[bool]) -> Vec<u64> {
-    assert!(bits.len().is_multiple_of(64));
     let mut words = Vec::new();
     for part in bits.chunks(64) {
         let mut word = 0;
@@ -29,93 +23,121 @@ pub fn words_of(bits: &[bool]) -> Vec<u64> {
     words
 }
 
-/// The 64 bits of a word.
-pub fn bits_of(word: u64) -> Vec<bool> {
-    let mut rest = word;
-    let mut bits = Vec::new();
-    for _ in 0..64 {
-        bits.push(rest % 2 == 1);
-        rest /= 2;
+/// The bits of words, 64 of each.
+pub fn bits_of(words: &[u64]) -> Vec<bool> {
+    let mut bits = Vec::with_capacity(64 * words.len());
+    for word in words {
+        let mut rest = *word;
+        for _ in 0..64 {
+            bits.push(rest % 2 == 1);
+            rest /= 2;
+        }
     }
     bits
 }
 
-/// The refusals of every strip call: 1, 2.
-pub fn check(h: Handle, count: usize) -> Result<(), u64> {
-    if !h.capacity.is_multiple_of(512) || h.capacity < 512 || h.capacity > 134_217_728 {
-        return Err(1);
-    }
-    if h.length > h.capacity {
-        return Err(1);
-    }
-    if count != h.capacity / 64 {
-        return Err(2);
-    }
-    Ok(())
+// ---- the refusals of all strip calls
+
+/// 1, 2, and 3 where counters are taken.
+pub fn check(h: Handle, words: usize, counters: Option<usize>) -> Result<(), Refusal> {
+    let allowed = h.capacity.is_multiple_of(512) && (512..=LARGEST).contains(&h.capacity);
+    BadHandle.when(!allowed || h.length > h.capacity)?;
+    WordCount.when(words != h.capacity / 64)?;
+    CounterCount.when(counters.is_some_and(|number| number != counter_count(h.capacity)))
 }
 
-fn check_valued(h: Handle, count: usize, v: u64, i: usize) -> Result<bool, u64> {
-    check(h, count)?;
-    if v != 0 && v != 1 {
-        return Err(8);
-    }
-    if i > h.length {
-        return Err(4);
-    }
+// ---- the readings, over a list of bits
+
+/// 8.
+fn check_value(v: u64) -> Result<bool, Refusal> {
+    BadValue.when(v > 1)?;
     Ok(v == 1)
 }
 
-/// look(i), over the bits of `count` words.
-pub fn get(h: Handle, count: usize, bits: &[bool], i: usize) -> Answer {
-    check(h, count)?;
-    if i >= h.length {
-        return Err(4);
-    }
+/// A position, or 6.
+fn found(position: Option<usize>) -> Answer {
+    position.map(|p| p as u64).ok_or(NotFound)
+}
+
+/// How many of some bits equal v.
+pub fn number_of(bits: &[bool], v: bool) -> u64 {
+    bits.iter().filter(|b| **b == v).count() as u64
+}
+
+/// look(i): 4.
+pub fn get(bits: &[bool], i: usize) -> Answer {
+    Position.when(i >= bits.len())?;
     Ok(u64::from(bits[i]))
 }
 
-/// next(v, i): the smallest position at or past i, below the length, holding v.
-pub fn successor(h: Handle, count: usize, bits: &[bool], v: u64, i: usize) -> Answer {
-    let value = check_valued(h, count, v, i)?;
-    (i..h.length).find(|&p| bits[p] == value).map(|p| p as u64).ok_or(6)
+/// count(v, i): 8, 4; how many of the first i bits equal v.
+pub fn rank(bits: &[bool], v: u64, i: usize) -> Answer {
+    let v = check_value(v)?;
+    Position.when(i > bits.len())?;
+    Ok(number_of(&bits[..i], v))
 }
 
-/// prior(v, i): the largest position below i holding v.
-pub fn predecessor(h: Handle, count: usize, bits: &[bool], v: u64, i: usize) -> Answer {
-    let value = check_valued(h, count, v, i)?;
-    (0..i).rev().find(|&p| bits[p] == value).map(|p| p as u64).ok_or(6)
-}
-
-/// The position of the k-th one, k from 0, or the number of bits where there are too few.
-pub fn select(bits: &[bool], k: usize) -> usize {
-    let mut seen = 0;
-    for (p, bit) in bits.iter().enumerate() {
-        if *bit {
-            if seen == k {
-                return p;
-            }
-            seen += 1;
+/// find(v, k): 8, 6; the position that holds v and has k of v before it. Parts that have too few of v are passed over.
+pub fn select(bits: &[bool], v: u64, k: usize) -> Answer {
+    let v = check_value(v)?;
+    let (mut start, mut rest) = (0, k);
+    for part in bits.chunks(1000) {
+        let places = number_of(part, v) as usize;
+        if rest < places {
+            return found((0..part.len()).filter(|p| part[*p] == v).nth(rest).map(|p| start + p));
         }
+        rest -= places;
+        start += part.len();
     }
-    bits.len()
+    found(None)
+}
+
+/// next(v, i): 8, 4, 6; the smallest position at or past i that holds v.
+pub fn successor(bits: &[bool], v: u64, i: usize) -> Answer {
+    let v = check_value(v)?;
+    Position.when(i > bits.len())?;
+    found((i..bits.len()).find(|p| bits[*p] == v))
+}
+
+/// prior(v, i): 8, 4, 6; the largest position below i that holds v.
+pub fn predecessor(bits: &[bool], v: u64, i: usize) -> Answer {
+    let v = check_value(v)?;
+    Position.when(i > bits.len())?;
+    found((0..i).rev().find(|p| bits[*p] == v))
+}
+
+/// A row reading on its row, after the refusals 10, 11 and 14.
+pub fn on_row(bits: &[bool], call: Call) -> Values {
+    let (y, z) = (call.y, call.z as usize);
+    let told = match call.opcode() {
+        Opcode::RowRank => rank(bits, y, z),
+        Opcode::RowSelect => select(bits, y, z),
+        Opcode::RowGet => get(bits, y as usize),
+        _ => unreachable!("{call:?} is not on a row"),
+    };
+    told.map(|value| (value, 0))
 }
 
 // ---- the counters
 
 /// A level of the tree: its number, how many nodes it has, and where the counters of the first stand.
-pub struct Level {
-    pub t: u32,
-    pub nodes: usize,
-    pub start: usize,
+struct Level {
+    t: u32,
+    nodes: usize,
+    start: usize,
+}
+
+/// The number of levels over a capacity.
+fn height(capacity: usize) -> u32 {
+    (1..=3).find(|h| 64usize.pow(*h) >= capacity / 512).unwrap()
 }
 
 /// The levels over a capacity, root first.
-pub fn levels(capacity: usize) -> Vec<Level> {
+fn levels(capacity: usize) -> Vec<Level> {
     let blocks = capacity / 512;
-    let height = (1..=3).find(|h| 64usize.pow(*h) >= blocks).unwrap();
     let mut start = 0;
     let mut list = Vec::new();
-    for t in (1..=height).rev() {
+    for t in (1..=height(capacity)).rev() {
         let nodes = blocks.div_ceil(64usize.pow(t));
         list.push(Level { t, nodes, start });
         start += 72 * nodes;
@@ -129,7 +151,7 @@ pub fn counter_count(capacity: usize) -> usize {
 }
 
 /// The bits of a child at level t: a block, or a node of the level below.
-pub fn child_bits(t: u32) -> usize {
+fn child_bits(t: u32) -> usize {
     512 * 64usize.pow(t - 1)
 }
 
@@ -144,7 +166,7 @@ fn children(i: usize) -> Range<usize> {
 }
 
 /// Every counter as defined for these bits; bits and children that are not there count 0.
-pub fn counters_of(capacity: usize, bits: &[u8]) -> Vec<u32> {
+pub fn counters_of(capacity: usize, bits: &[bool]) -> Vec<u32> {
     let mut counters = Vec::new();
     for level in levels(capacity) {
         let ones: Vec<u32> =
@@ -175,55 +197,38 @@ pub fn counting(capacity: usize, p: usize) -> Vec<usize> {
     list
 }
 
-// ---- the record
+/// How many counters turning stroke p changes: 15 - (c mod 8) - (c div 8) at its child slot c, added over the levels.
+fn changes(capacity: usize, p: usize) -> u64 {
+    let slots = (1..=height(capacity)).map(|t| p / child_bits(t) % 64);
+    slots.map(|c| 15 - c % 8 - c / 8).sum::<usize>() as u64
+}
+
+// ---- the strip
 
 /// A strip, position 0 first, under a capacity: what a fitting record holds.
 #[derive(Clone)]
 pub struct Strip {
     pub capacity: usize,
-    pub bits: Vec<u8>,
-}
-
-/// The refusal of a call under a handle with so many words and counters lent: the first line that applies.
-fn refuse(h: Handle, (words, counters): (usize, usize), own: &[(bool, u64)]) -> Result<(), u64> {
-    check(h, words)?;
-    if counters != counter_count(h.capacity) {
-        return Err(3);
-    }
-    match own.iter().find(|(applies, _)| *applies) {
-        Some((_, number)) => Err(*number),
-        None => Ok(()),
-    }
+    pub bits: Vec<bool>,
 }
 
 impl Strip {
+    pub fn new(capacity: usize, bits: Vec<bool>) -> Strip {
+        Strip { capacity, bits }
+    }
+
     pub fn handle(&self) -> Handle {
         Handle { capacity: self.capacity, length: self.bits.len() }
     }
 
-    /// count(v, i): how many of the first i bits equal v.
-    pub fn count(&self, v: u64, i: usize) -> u64 {
-        self.bits[..i].iter().filter(|b| u64::from(**b) == v).count() as u64
-    }
-
-    /// find(v, k): the position that holds v and has k of v before it.
-    pub fn find(&self, v: u64, k: usize) -> Answer {
-        let mut places = self.bits.iter().enumerate().filter(|(_, b)| u64::from(**b) == v);
-        places.nth(k).map(|(p, _)| p as u64).ok_or(6)
-    }
-
-    fn ones(&self) -> u64 {
-        self.count(1, self.bits.len())
+    pub fn ones(&self) -> u64 {
+        number_of(&self.bits, true)
     }
 
     /// The words laid afresh: the bits at their positions, zeros past the length.
     pub fn words(&self) -> Vec<u64> {
-        let mut words = vec![0; self.capacity / 64];
-        for (word, part) in words.iter_mut().zip(self.bits.chunks(64)) {
-            for b in part.iter().rev() {
-                *word = *word * 2 + u64::from(*b);
-            }
-        }
+        let mut words = words_of(&self.bits);
+        words.resize(self.capacity / 64, 0);
         words
     }
 
@@ -232,76 +237,72 @@ impl Strip {
         counters_of(self.capacity, &self.bits)
     }
 
-    /// Makes the change, under this strip's own handle, with so many words and counters lent.
-    pub fn change(&mut self, lent: (usize, usize), change: Change) -> Report {
-        let h = self.handle();
-        let done = match change {
-            Change::Create(capacity) => self.create(lent, capacity),
-            Change::Push(v) => self.push(lent, v),
-            Change::Flip(i) => self.flip(lent, i),
-            Change::Fill(a, b, v) => self.fill(lent, a, b, v),
-            Change::Truncate(n) => self.truncate(lent, n),
-        };
-        match (done, change) {
-            (Ok((first, second)), _) => Report { refusal: 0, first, second, handle: self.handle() },
-            (Err(number), Change::Create(_)) => {
-                Report { refusal: number, first: 0, second: 0, handle: Handle { capacity: 0, length: 0 } }
-            }
-            (Err(number), _) => Report { refusal: number, first: 0, second: 0, handle: h },
+    /// A call from lay to check, with so many words and counters lent.
+    pub fn step(&mut self, lent: (usize, usize), call: Call) -> Values {
+        let (opcode, x) = (call.opcode(), call.x as usize);
+        if opcode == Opcode::Create {
+            return self.create(lent, x);
+        }
+        check(self.handle(), lent.0, opcode.takes_counters().then_some(lent.1))?;
+        match opcode {
+            Opcode::Push => self.push(call.x),
+            Opcode::Flip => self.flip(x),
+            Opcode::Fill => self.fill(x, call.y as usize, call.z),
+            Opcode::Truncate => self.truncate(x),
+            _ => self.read(call).map(|value| (value, 0)),
         }
     }
 
-    fn create(&mut self, lent: (usize, usize), capacity: usize) -> Result<(u64, u64), u64> {
-        refuse(Handle { capacity, length: 0 }, lent, &[])?;
-        *self = Strip { capacity, bits: Vec::new() };
+    /// A reading, after 1 to 3.
+    fn read(&self, call: Call) -> Answer {
+        let (bits, y) = (&self.bits, call.y as usize);
+        match call.opcode() {
+            Opcode::Get => get(bits, call.x as usize),
+            Opcode::Rank => rank(bits, call.x, y),
+            Opcode::Select => select(bits, call.x, y),
+            Opcode::Successor => successor(bits, call.x, y),
+            Opcode::Predecessor => predecessor(bits, call.x, y),
+            Opcode::Verify => Ok(self.ones()),
+            _ => unreachable!("{call:?} is not on a strip"),
+        }
+    }
+
+    /// lay(capacity): 1, 2, 3; the strip is empty.
+    fn create(&mut self, lent: (usize, usize), capacity: usize) -> Values {
+        check(Handle { capacity, length: 0 }, lent.0, Some(lent.1))?;
+        *self = Strip::new(capacity, Vec::new());
         Ok((counter_count(capacity) as u64, 0))
     }
 
-    fn push(&mut self, lent: (usize, usize), v: u64) -> Result<(u64, u64), u64> {
-        let h = self.handle();
-        refuse(h, lent, &[(v > 1, 8), (h.length == h.capacity, 7)])?;
-        self.bits.push(v as u8);
-        let number = if v == 1 { counting(h.capacity, h.length).len() } else { 0 };
-        Ok((h.length as u64, number as u64))
+    /// add(v): 8, 7; appends v.
+    fn push(&mut self, v: u64) -> Values {
+        let bit = check_value(v)?;
+        let p = self.bits.len();
+        Full.when(p == self.capacity)?;
+        self.bits.push(bit);
+        Ok((p as u64, if bit { changes(self.capacity, p) } else { 0 }))
     }
 
-    fn flip(&mut self, lent: (usize, usize), i: usize) -> Result<(u64, u64), u64> {
-        let h = self.handle();
-        refuse(h, lent, &[(i >= h.length, 4)])?;
-        self.bits[i] = 1 - self.bits[i];
-        Ok((u64::from(self.bits[i]), counting(h.capacity, i).len() as u64))
+    /// turn(i): 4; replaces one bit by its opposite.
+    fn flip(&mut self, i: usize) -> Values {
+        Position.when(i >= self.bits.len())?;
+        self.bits[i] = !self.bits[i];
+        Ok((u64::from(self.bits[i]), changes(self.capacity, i)))
     }
 
-    fn fill(&mut self, lent: (usize, usize), a: usize, b: usize, v: u64) -> Result<(u64, u64), u64> {
-        let h = self.handle();
-        refuse(h, lent, &[(v > 1, 8), (a > b, 5), (b > h.length, 4)])?;
-        self.bits[a..b].fill(v as u8);
+    /// run(a, b, v): 8, 5, 4; sets the positions a to b - 1 to v.
+    fn fill(&mut self, a: usize, b: usize, v: u64) -> Values {
+        let v = check_value(v)?;
+        Span.when(a > b)?;
+        Position.when(b > self.bits.len())?;
+        self.bits[a..b].fill(v);
         Ok((self.ones(), 0))
     }
 
-    fn truncate(&mut self, lent: (usize, usize), n: usize) -> Result<(u64, u64), u64> {
-        let h = self.handle();
-        refuse(h, lent, &[(n > h.length, 4)])?;
+    /// cut(n): 4; keeps the first n.
+    fn truncate(&mut self, n: usize) -> Values {
+        Position.when(n > self.bits.len())?;
         self.bits.truncate(n);
         Ok((self.ones(), 0))
-    }
-
-    /// Reads it, under its own handle, with so many words and counters lent.
-    pub fn read(&self, lent: (usize, usize), reading: Reading) -> Answer {
-        let h = self.handle();
-        match reading {
-            Reading::Rank(v, i) => {
-                refuse(h, lent, &[(v > 1, 8), (i > h.length, 4)])?;
-                Ok(self.count(v, i))
-            }
-            Reading::Select(v, k) => {
-                refuse(h, lent, &[(v > 1, 8)])?;
-                self.find(v, k)
-            }
-            Reading::Verify => {
-                refuse(h, lent, &[])?;
-                Ok(self.ones())
-            }
-        }
     }
 }

@@ -1,8 +1,10 @@
 //! A record, words and counters, lent to the proved calls.
+use crate::call::{Call, Opcode};
 use crate::ffi::{
     strip_create, strip_fill, strip_flip, strip_push, strip_rank, strip_select, strip_truncate, strip_verify,
 };
 use crate::guarded::Guarded;
+use crate::refusal::{answer, values, Answer, Values};
 use crate::Handle;
 
 /// A call that changes a record. `Create` takes a capacity and no handle.
@@ -23,12 +25,32 @@ pub enum Reading {
     Verify,
 }
 
-/// What a change writes to `out`: refusal or 0, two values, the handle now in use.
+impl From<Change> for Call {
+    fn from(change: Change) -> Call {
+        match change {
+            Change::Create(c) => Call::new(Opcode::Create, [c as u64, 0, 0]),
+            Change::Push(v) => Call::new(Opcode::Push, [v, 0, 0]),
+            Change::Flip(i) => Call::new(Opcode::Flip, [i as u64, 0, 0]),
+            Change::Fill(a, b, v) => Call::new(Opcode::Fill, [a as u64, b as u64, v]),
+            Change::Truncate(n) => Call::new(Opcode::Truncate, [n as u64, 0, 0]),
+        }
+    }
+}
+
+impl From<Reading> for Call {
+    fn from(reading: Reading) -> Call {
+        match reading {
+            Reading::Rank(v, i) => Call::new(Opcode::Rank, [v, i as u64, 0]),
+            Reading::Select(v, k) => Call::new(Opcode::Select, [v, k as u64, 0]),
+            Reading::Verify => Call::new(Opcode::Verify, [0; 3]),
+        }
+    }
+}
+
+/// What a change writes to `out`: what it tells, and the handle now in use.
 #[derive(Clone, Copy, Debug, PartialEq, Eq)]
 pub struct Report {
-    pub refusal: u64,
-    pub first: u64,
-    pub second: u64,
+    pub told: Values,
     pub handle: Handle,
 }
 
@@ -71,12 +93,7 @@ impl Record {
     pub fn change(&mut self, h: Handle, change: Change) -> Report {
         let out = self.run(h, change, 8);
         assert!(out[5..].iter().all(|number| *number == UNTOUCHED), "{change:?} wrote past the five numbers");
-        Report {
-            refusal: out[0],
-            first: out[1],
-            second: out[2],
-            handle: Handle { capacity: out[3] as usize, length: out[4] as usize },
-        }
+        Report { told: values(&out), handle: Handle { capacity: out[3] as usize, length: out[4] as usize } }
     }
 
     /// Makes the call with an `out` of fewer than five numbers, and asserts that it wrote nothing there.
@@ -104,12 +121,12 @@ impl Record {
         report.numbers().to_vec()
     }
 
-    /// The value, or 2^32 plus the refusal's number.
-    pub fn read(&mut self, h: Handle, reading: Reading) -> u64 {
+    /// Makes the reading.
+    pub fn read(&mut self, h: Handle, reading: Reading) -> Answer {
         let ((words, nw), (counters, nc)) = (self.words.lend(), self.counters.lend());
         let Handle { capacity: c, length: n } = h;
         // SAFETY: as in `run`.
-        let answer = unsafe {
+        let told = unsafe {
             match reading {
                 Reading::Rank(v, i) => strip_rank(c, n, words, nw, counters, nc, v, i),
                 Reading::Select(v, k) => strip_select(c, n, words, nw, counters, nc, v, k),
@@ -117,6 +134,6 @@ impl Record {
             }
         };
         assert!(self.words.intact() && self.counters.intact(), "{reading:?} wrote to a guard");
-        answer
+        answer(told)
     }
 }

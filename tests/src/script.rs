@@ -1,47 +1,9 @@
-//! Calls as numbers, and what is lent to them.
+//! Buffers lent to scripts and to single calls of a script.
+use crate::call::Call;
 use crate::ffi::{strip_execute, strip_step};
 use crate::guarded::Guarded;
 use crate::record::UNTOUCHED;
-
-/// The number of calls; an opcode is taken modulo it.
-pub const CALLS: usize = 17;
-
-/// The calls, each at its opcode.
-pub const NAMES: [&str; CALLS] = [
-    "lay",
-    "add",
-    "turn",
-    "run",
-    "cut",
-    "look",
-    "count",
-    "find",
-    "next",
-    "prior",
-    "check",
-    "clear",
-    "freeze",
-    "inspect",
-    "row count",
-    "row find",
-    "row look",
-];
-
-/// An opcode and three arguments, in the scope document's order; a row reading has its label first.
-#[derive(Clone, Copy, Debug)]
-pub struct Call {
-    pub op: u64,
-    pub x: u64,
-    pub y: u64,
-    pub z: u64,
-}
-
-impl Call {
-    /// The opcode from 0 to 16.
-    pub fn code(&self) -> usize {
-        (self.op % CALLS as u64) as usize
-    }
-}
+use crate::Handle;
 
 /// Words, counters and an image. Each call asserts that it wrote to nothing beside them and the numbers that it tells.
 pub struct Buffers {
@@ -86,12 +48,12 @@ impl Buffers {
     }
 
     /// Runs one call under a handle with `room` numbers for what it tells: those numbers.
-    pub fn step(&mut self, call: Call, (capacity, length): (u64, u64), room: usize) -> Vec<u64> {
+    pub fn step(&mut self, call: Call, h: Handle, room: usize) -> Vec<u64> {
         let mut told = Guarded::new(&vec![UNTOUCHED; room], UNTOUCHED);
         let ((words, nw), (counters, nc), (image, ni)) = (self.words.lend(), self.counters.lend(), self.image.lend());
         let (out, no) = told.lend();
-        let Call { op, x, y, z } = call;
-        unsafe { strip_step(op, x, y, z, capacity, length, words, nw, counters, nc, image, ni, out, no) };
+        let (Call { op, x, y, z }, c, n) = (call, h.capacity as u64, h.length as u64);
+        unsafe { strip_step(op, x, y, z, c, n, words, nw, counters, nc, image, ni, out, no) };
         assert!(self.intact() && told.intact(), "{call:?} wrote to a guard");
         told.numbers().to_vec()
     }

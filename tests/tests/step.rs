@@ -1,76 +1,86 @@
 //! One call of a script on any handle and any buffers: records that fit or not, images with sound chains or not, rows right
 //! or wrong. Where the outcome is fixed it is compared whole; where it is free it is held to its bounds.
+use strip_tests::borders::{BAD_CAPACITIES, FAR, LARGEST, ONE_LEVEL, THREE_LEVELS, TWO_LEVELS, WIDE};
+use strip_tests::call::{Call, Opcode, CALLS, OPCODES};
+use strip_tests::cases::{at_call, Cases};
 use strip_tests::draw::{self, Scene};
 use strip_tests::layout;
 use strip_tests::model::{self, Strip};
-use strip_tests::paper::{self, Row, Values};
+use strip_tests::paper::Frozen;
 use strip_tests::random::Random;
 use strip_tests::record::UNTOUCHED;
-use strip_tests::script::{Buffers, Call, CALLS, NAMES};
+use strip_tests::refusal::{values, Refusal, Values};
+use strip_tests::script::Buffers;
 use strip_tests::tally::Tally;
 use strip_tests::Handle;
+use Opcode::*;
+use Refusal::*;
 
-/// What each call can tell with its outcome fixed: its refusals, and 0 where it is accepted.
-const TOLD: [&[u64]; CALLS] = [
-    &[0, 1, 2, 3],
-    &[0, 1, 2, 3, 7, 8],
-    &[0, 1, 2, 3, 4],
-    &[0, 1, 2, 3, 4, 5, 8],
-    &[0, 1, 2, 3, 4],
-    &[0, 1, 2, 4],
-    &[0, 1, 2, 3, 4, 8],
-    &[0, 1, 2, 3, 6, 8],
-    &[0, 1, 2, 4, 6, 8],
-    &[0, 1, 2, 4, 6, 8],
-    &[0, 1, 2, 3, 9],
-    &[0, 13],
-    &[0, 1, 2, 10, 11, 12, 13],
-    &[0, 10, 15],
-    &[0, 4, 8, 10, 11, 14],
-    &[0, 6, 8, 10, 11, 14],
-    &[0, 4, 10, 11, 14],
-];
+/// The refusals that a call can meet with its outcome fixed, in the order of their numbers.
+fn refusals(opcode: Opcode) -> &'static [Refusal] {
+    match opcode {
+        Create => &[BadHandle, WordCount, CounterCount],
+        Push => &[BadHandle, WordCount, CounterCount, Full, BadValue],
+        Flip | Truncate => &[BadHandle, WordCount, CounterCount, Position],
+        Fill => &[BadHandle, WordCount, CounterCount, Position, Span, BadValue],
+        Get => &[BadHandle, WordCount, Position],
+        Rank => &[BadHandle, WordCount, CounterCount, Position, BadValue],
+        Select => &[BadHandle, WordCount, CounterCount, NotFound, BadValue],
+        Successor | Predecessor => &[BadHandle, WordCount, Position, NotFound, BadValue],
+        Verify => &[BadHandle, WordCount, CounterCount, Unfit],
+        Clear => &[NoRoom],
+        Freeze => &[BadHandle, WordCount, Unsound, BadLabel, LabelPresent, NoRoom],
+        Inspect => &[Unsound, WrongRow],
+        RowRank => &[Position, BadValue, Unsound, BadLabel, LabelAbsent],
+        RowSelect => &[NotFound, BadValue, Unsound, BadLabel, LabelAbsent],
+        RowGet => &[Position, Unsound, BadLabel, LabelAbsent],
+    }
+}
+
+/// Whether the outcome of a call can be free: on a record that does not fit, or on a wrong row.
+fn can_be_free(opcode: Opcode) -> bool {
+    matches!(opcode, Push | Flip | Rank | Select | RowRank | RowSelect)
+}
 
 // ---- states
 
 /// A handle and what is lent.
 #[derive(Clone, PartialEq)]
 struct State {
-    handle: (u64, u64),
+    handle: Handle,
     words: Vec<u64>,
     counters: Vec<u32>,
     image: Vec<u8>,
 }
 
 impl State {
-    /// The first bits of the words, as many as the length.
-    fn strip(&self) -> Vec<bool> {
-        (0..self.handle.1 as usize).map(|p| self.words[p / 64] >> (p % 64) & 1 == 1).collect()
+    /// The strip under the handle: the first bits of the words.
+    fn strip(&self) -> Strip {
+        let bits = (0..self.handle.length).map(|p| self.words[p / 64] >> (p % 64) & 1 == 1).collect();
+        Strip::new(self.handle.capacity, bits)
     }
 
-    /// Words and counters laid afresh from these bits, under a handle of their number.
-    fn lay(&mut self, bits: &[bool]) {
-        let strip = Strip { capacity: self.handle.0 as usize, bits: bits.iter().map(|b| u8::from(*b)).collect() };
-        self.handle.1 = bits.len() as u64;
+    /// Words and counters laid afresh from a strip, under its handle.
+    fn lay(&mut self, strip: &Strip) {
+        self.handle = strip.handle();
         self.words = strip.words();
         self.counters = strip.counters();
     }
 
     /// A record of the right lengths fits when it is laid afresh from its strip.
     fn fits(&self) -> bool {
-        let mut fresh = State { image: Vec::new(), ..self.clone() };
-        fresh.lay(&self.strip());
-        fresh.words == self.words && fresh.counters == self.counters
+        let strip = self.strip();
+        strip.words() == self.words && strip.counters() == self.counters
     }
 
-    fn check(&self, counted: bool) -> Result<(), u64> {
-        paper::check(self.handle, self.words.len(), counted.then_some(self.counters.len()))
+    /// How many words and counters are lent.
+    fn sizes(&self) -> (usize, usize) {
+        (self.words.len(), self.counters.len())
     }
 
-    /// The rows of the chain, or 10.
-    fn rows(&self) -> Result<Vec<layout::Row>, u64> {
-        let places = layout::chain(&self.image).ok_or(10u64)?;
-        Ok(places.into_iter().map(|at| layout::Row::new(layout::part(&self.image, at))).collect())
+    /// 1, 2, and 3 where counters are taken.
+    fn check(&self, counted: bool) -> Result<(), Refusal> {
+        model::check(self.handle, self.words.len(), counted.then_some(self.counters.len()))
     }
 
     /// Runs a call: what it tells, and the state that it leaves.
@@ -78,16 +88,10 @@ impl State {
         let mut buffers = Buffers::new(&self.words, &self.counters, &self.image);
         let out = buffers.step(call, self.handle, 8);
         assert!(out[5..].iter().all(|number| *number == UNTOUCHED), "{call:?} wrote past the five numbers");
-        let told = match out[0] {
-            0 => Ok((out[1], out[2])),
-            number => {
-                assert_eq!(out[1..3], [0, 0], "{call:?} told values with refusal {number}");
-                Err(number)
-            }
-        };
+        let handle = Handle { capacity: out[3] as usize, length: out[4] as usize };
         let (words, counters, image) =
             (buffers.words().to_vec(), buffers.counters().to_vec(), buffers.image().to_vec());
-        (told, State { handle: (out[3], out[4]), words, counters, image })
+        (values(&out), State { handle, words, counters, image })
     }
 
     /// Runs it with room for fewer than five numbers, and asserts that nothing happens.
@@ -107,62 +111,42 @@ type Owed = Option<(Values, State)>;
 
 fn owed(before: &State, call: Call) -> Owed {
     let mut after = before.clone();
-    let told = match call.code() {
-        0 => create(&mut after, call.x),
-        11 => clear(&mut after.image),
-        12 => freeze(before, &mut after.image, call.x),
-        13 => inspect(before),
-        14..=16 => on_row(before, call)?,
-        _ => match before.check(paper::takes_counters(call)) {
+    let one = |value| (value, 0);
+    let told = match call.opcode() {
+        Clear => layout::clear(&mut after.image).map(one),
+        Freeze => {
+            let bits = model::bits_of(&before.words);
+            layout::freeze(before.handle, &bits, &mut after.image, call.x as usize).map(one)
+        }
+        Inspect => layout::inspect(&before.image).map(one),
+        RowRank | RowSelect | RowGet => on_row(before, call)?,
+        Create => create(&mut after, call),
+        opcode => match before.check(opcode.takes_counters()) {
             Ok(()) => on_strip(&mut after, call)?,
-            Err(number) => Err(number),
+            Err(refusal) => Err(refusal),
         },
     };
     Some((told, after))
 }
 
-/// lay(capacity): 1, 2, 3.
-fn create(after: &mut State, capacity: u64) -> Values {
-    paper::check((capacity, 0), after.words.len(), Some(after.counters.len()))?;
-    after.handle = (capacity, 0);
-    after.words.fill(0);
-    after.counters.fill(0);
-    Ok((after.counters.len() as u64, 0))
-}
-
-/// clear: 13.
-fn clear(image: &mut [u8]) -> Values {
-    paper::check_size(image.len())?;
-    image[..16].copy_from_slice(&[0, 0, 0, 0, 1, 0, 0, 0, 0, 0, 0, 0, 0, 0, 0, 0]);
-    Ok((16, 0))
-}
-
-/// freeze(label): 1, 2, 10, 11, 12, 13.
-fn freeze(before: &State, image: &mut [u8], label: u64) -> Values {
-    let bits: Vec<bool> = before.words.iter().flat_map(|word| model::bits_of(*word)).collect();
-    let handle = Handle { capacity: before.handle.0 as usize, length: before.handle.1 as usize };
-    layout::freeze(handle, &bits, image, label as usize).map(|unit| (unit, 0))
-}
-
-/// inspect: 10, 15.
-fn inspect(before: &State) -> Values {
-    let rows = before.rows()?;
-    if rows.iter().any(|row| !row.right) {
-        return Err(15);
-    }
-    Ok((rows.len() as u64, 0))
+/// lay(capacity), whatever the handle and the record.
+fn create(after: &mut State, call: Call) -> Values {
+    let mut strip = Strip::new(0, Vec::new());
+    let told = strip.step(after.sizes(), call)?;
+    after.lay(&strip);
+    Ok(told)
 }
 
 /// A row reading: 10, 11, 14, its own; of a wrong row count and find are free, but for a k at or past its length.
 fn on_row(before: &State, call: Call) -> Option<Values> {
     let row = match layout::row(&before.image, call.x as usize) {
         Ok(row) => row,
-        Err(number) => return Some(Err(number)),
+        Err(refusal) => return Some(Err(refusal)),
     };
-    let told = paper::on_row(&row.bits, call);
-    let free = match call.code() {
-        14 => told.is_ok(),
-        15 => told != Err(8) && call.z < row.bits.len() as u64,
+    let told = model::on_row(&row.bits, call);
+    let free = match call.opcode() {
+        RowRank => told.is_ok(),
+        RowSelect => told != Err(BadValue) && call.z < row.bits.len() as u64,
         _ => false,
     };
     (row.right || !free).then_some(told)
@@ -171,20 +155,19 @@ fn on_row(before: &State, call: Call) -> Option<Values> {
 /// A call from add to check, after 1 to 3; on a record that does not fit add, turn, count and find are free, but for a k
 /// at or past the length.
 fn on_strip(after: &mut State, call: Call) -> Option<Values> {
-    let mut bits = after.strip();
-    let length = after.handle.1;
-    let told = paper::on_strip(after.handle.0, &mut bits, call);
-    let code = call.code();
-    let free = match code {
-        1 | 2 | 6 => told.is_ok(),
-        7 => told != Err(8) && call.y < length,
+    let mut strip = after.strip();
+    let opcode = call.opcode();
+    let told = strip.step(after.sizes(), call);
+    let free = match opcode {
+        Push | Flip | Rank => told.is_ok(),
+        Select => told != Err(BadValue) && call.y < after.handle.length as u64,
         _ => false,
     };
-    if (free || code == 10) && !after.fits() {
-        return (code == 10).then_some(Err(9));
+    if (free || opcode == Verify) && !after.fits() {
+        return (opcode == Verify).then_some(Err(Unfit));
     }
-    if told.is_ok() && (1..=4).contains(&code) {
-        after.lay(&bits);
+    if told.is_ok() && opcode.changes_strip() {
+        after.lay(&strip);
     }
     Some(told)
 }
@@ -192,15 +175,18 @@ fn on_strip(after: &mut State, call: Call) -> Option<Values> {
 /// The bounds of an outcome that is free.
 fn within(before: &State, call: Call, told: Values, after: &State) -> bool {
     let below = |n: u64| told.is_ok_and(|(first, second)| first < n && second == 0);
-    match call.code() {
-        1 | 2 if told != Err(9) => near(before, call, told, after),
-        1 | 2 => after == before,
-        6 => after == before && (told == Err(9) || below(call.y + 1)),
-        7 => after == before && (told == Err(6) || told == Err(9) || below(before.handle.1)),
-        14 => after == before && (told == Err(15) || below(call.z + 1)),
-        15 => {
+    match call.opcode() {
+        Push | Flip if told != Err(Unfit) => near(before, call, told, after),
+        Push | Flip => after == before,
+        Rank => after == before && (told == Err(Unfit) || below(call.y + 1)),
+        Select => {
+            let length = before.handle.length as u64;
+            after == before && (told == Err(NotFound) || told == Err(Unfit) || below(length))
+        }
+        RowRank => after == before && (told == Err(WrongRow) || below(call.z + 1)),
+        RowSelect => {
             let length = layout::row(&before.image, call.x as usize).map_or(0, |row| row.bits.len() as u64);
-            after == before && (told == Err(6) || told == Err(15) || below(length))
+            after == before && (told == Err(NotFound) || told == Err(WrongRow) || below(length))
         }
         _ => false,
     }
@@ -209,14 +195,16 @@ fn within(before: &State, call: Call, told: Values, after: &State) -> bool {
 /// Add and turn on a record that does not fit: no bit changed but the stroke's, no counter that does not count it, and at
 /// most 45 told.
 fn near(before: &State, call: Call, told: Values, after: &State) -> bool {
-    let (capacity, length) = before.handle;
-    let p = if call.code() == 1 { length } else { call.x } as usize;
+    let Handle { capacity, length } = before.handle;
+    let adds = call.opcode() == Push;
+    let p = if adds { length } else { call.x as usize };
     let weight = 1 << (p % 64);
     let turned = before.words[p / 64] & weight == 0;
-    let (bit, first, grown) = if call.code() == 1 { (call.x == 1, length, 1) } else { (turned, u64::from(turned), 0) };
-    let mut wanted = State { handle: (capacity, length + grown), counters: after.counters.clone(), ..before.clone() };
+    let (bit, first, grown) = if adds { (call.x == 1, length as u64, 1) } else { (turned, u64::from(turned), 0) };
+    let handle = Handle { capacity, length: length + grown };
+    let mut wanted = State { handle, counters: after.counters.clone(), ..before.clone() };
     wanted.words[p / 64] = if bit { wanted.words[p / 64] | weight } else { wanted.words[p / 64] & !weight };
-    let counting = model::counting(capacity as usize, p);
+    let counting = model::counting(capacity, p);
     let counted = |x: usize| after.counters[x] == before.counters[x] || counting.contains(&x);
     *after == wanted
         && (0..before.counters.len()).all(counted)
@@ -238,10 +226,9 @@ impl Tallies {
 
     /// Asserts that with its outcome fixed each call told all that it can, and that each met what leaves it free.
     fn finish(&self, what: &str) {
-        for code in 0..CALLS {
-            assert_eq!(self.fixed.told(code), TOLD[code], "{what}: what {} told", NAMES[code]);
-            let can_be_free = matches!(code, 1 | 2 | 6 | 7 | 14 | 15);
-            assert_eq!(!self.free.told(code).is_empty(), can_be_free, "{what}: {} free", NAMES[code]);
+        for opcode in OPCODES {
+            self.fixed.expect(opcode, refusals(opcode), what);
+            assert_eq!(self.free.made(opcode), can_be_free(opcode), "{what}: {} free", opcode.name());
         }
         self.print(what);
     }
@@ -250,7 +237,7 @@ impl Tallies {
 /// Runs a call, holds it to what it owes, and gives the state that it leaves.
 fn hold(before: &State, call: Call, tally: &mut Tallies) -> State {
     let (told, after) = before.step(call);
-    let name = NAMES[call.code()];
+    let name = call.opcode().name();
     match owed(before, call) {
         Some((wanted, left)) => {
             assert_eq!(told, wanted, "{name} {call:?} under {:?}", before.handle);
@@ -274,14 +261,13 @@ fn sound(random: &mut Random, capacity: usize, rows: &[(usize, usize, Vec<bool>)
     let share = [0, 3, 500, 997, 1000][random.below(5)];
     let bits = random.bits(length, share);
     let image = layout::image(rows, random.below(80));
-    let mut state = State { handle: (capacity as u64, 0), words: Vec::new(), counters: Vec::new(), image };
-    state.lay(&bits);
-    state
+    let strip = Strip::new(capacity, bits);
+    State { handle: strip.handle(), words: strip.words(), counters: strip.counters(), image }
 }
 
 /// The record: bits past the length, bits below it, counters.
 fn damage_record(random: &mut Random, state: &mut State) {
-    let (capacity, length) = (state.handle.0 as usize, state.handle.1 as usize);
+    let Handle { capacity, length } = state.handle;
     for _ in 0..1 + random.below(3) {
         let x = random.below(state.counters.len());
         match random.below(10) {
@@ -303,24 +289,27 @@ fn damage_record(random: &mut Random, state: &mut State) {
 
 /// The handle and the numbers of words and counters: a capacity not allowed, a length above it or another, other numbers.
 fn damage_lengths(random: &mut Random, state: &mut State) {
-    let (capacity, length) = state.handle;
-    let (words, counters) = (state.words.len(), state.counters.len());
+    let Handle { capacity, length } = state.handle;
+    let (words, counters) = state.sizes();
     match random.below(8) {
         0 => {
-            let bad =
-                [0, 1, 511, capacity + 1, capacity - 1, (1 << 32) + capacity, 134_218_240, u64::MAX - 511, u64::MAX];
-            state.handle.0 = bad[random.below(bad.len())];
+            let near = [capacity + 1, capacity - 1, WIDE + capacity];
+            let all = [&near[..], &BAD_CAPACITIES].concat();
+            state.handle.capacity = all[random.below(all.len())];
         }
-        1 => state.handle.1 = [capacity + 1, (1 << 32) + length, 1 << 63, u64::MAX][random.below(4)],
-        2 => state.handle.1 = random.below(capacity as usize + 1) as u64,
-        3 => state.handle.0 = [capacity + 512, 2 * capacity, 33_280, 134_217_728][random.below(4)],
+        1 => {
+            let all = [&[capacity + 1, WIDE + length][..], &FAR].concat();
+            state.handle.length = all[random.below(all.len())];
+        }
+        2 => state.handle.length = random.below(capacity + 1),
+        3 => state.handle.capacity = [capacity + 512, 2 * capacity, TWO_LEVELS, LARGEST][random.below(4)],
         4 => state.words.resize([0, words - 1, words + 1, 2 * words][random.below(4)], 5),
         5 => state.counters.resize([0, counters - 1, counters + 1, counters + 72][random.below(4)], 5),
         6 => {
             state.words.resize(words + random.below(2), 5);
             state.counters.resize(counters + 1, 5);
         }
-        _ => state.handle.1 = capacity,
+        _ => state.handle.length = capacity,
     }
 }
 
@@ -380,54 +369,68 @@ fn some_rows(random: &mut Random) -> Vec<(usize, usize, Vec<bool>)> {
     rows
 }
 
-/// From each of many states a walk of calls: at times the next call goes on with what the one before left.
-fn walks(random: &mut Random, capacity: usize, walks: usize, steps: usize, tally: &mut Tallies) {
-    for _ in 0..walks {
-        let rows = some_rows(random);
-        let mut state = sound(random, capacity, &rows);
-        let labelled: Vec<Row> = rows.into_iter().map(|(_, label, bits)| (label as u64, bits)).collect();
-        if random.below(4) > 0 {
-            damage_record(random, &mut state);
-        }
-        if random.below(4) > 0 {
-            damage_image(random, &mut state.image);
-        }
-        if random.below(4) == 0 {
-            damage_lengths(random, &mut state);
-        }
-        for _ in 0..steps {
-            let strip = if state.check(false).is_ok() { state.strip() } else { Vec::new() };
-            let code = random.below(CALLS);
-            let call = draw::call(random, code, &Scene { capacity: state.handle.0, strip: &strip, rows: &labelled });
-            state.idle(call, random.below(5));
-            let after = hold(&state, call, tally);
-            if random.below(8) == 0 {
-                state = after;
-            }
+/// A state: a fitting record and an image of rows, mostly damaged; and the rows that were written.
+fn some_state(random: &mut Random, capacity: usize) -> (State, Vec<Frozen>) {
+    let rows = some_rows(random);
+    let mut state = sound(random, capacity, &rows);
+    if random.below(4) > 0 {
+        damage_record(random, &mut state);
+    }
+    if random.below(4) > 0 {
+        damage_image(random, &mut state.image);
+    }
+    if random.below(4) == 0 {
+        damage_lengths(random, &mut state);
+    }
+    (state, rows.into_iter().map(|(_, label, bits)| (label as u64, bits)).collect())
+}
+
+/// A walk of calls from a state: at times the next call goes on with what the one before left.
+fn walk(random: &mut Random, capacity: usize, steps: usize, tally: &mut Tallies) {
+    let (mut state, rows) = some_state(random, capacity);
+    for number in 0..steps {
+        at_call(number);
+        let strip = if state.check(false).is_ok() { state.strip().bits } else { Vec::new() };
+        let scene = Scene { capacity: state.handle.capacity as u64, strip: &strip, rows: &rows };
+        let opcode = OPCODES[random.below(CALLS)];
+        let call = draw::call(random, opcode, &scene);
+        state.idle(call, random.below(5));
+        let after = hold(&state, call, tally);
+        if random.below(8) == 0 {
+            state = after;
         }
     }
 }
 
 #[test]
 fn any_state_at_one_level() {
-    let (mut random, mut tally) = (Random::new(201), Tallies::default());
-    for capacity in [512, 1024, 4608] {
-        walks(&mut random, capacity, 3500, 40, &mut tally);
+    let (mut cases, mut tally) = (Cases::new("step", "any_state_at_one_level", 201), Tallies::default());
+    for (capacity, walks) in [(512, 3500), (1024, 3500), (4608, 3500), (ONE_LEVEL, 250)] {
+        for _ in 0..walks {
+            cases.run(|random| walk(random, capacity, 40, &mut tally));
+        }
     }
-    walks(&mut random, 32_768, 250, 40, &mut tally);
-    tally.finish("one level");
+    if cases.all() {
+        tally.finish(&format!("one level, seed {}", cases.seed()));
+    }
 }
 
 #[test]
 fn any_state_at_two_levels() {
-    let (mut random, mut tally) = (Random::new(202), Tallies::default());
-    walks(&mut random, 33_280, 800, 40, &mut tally);
-    tally.finish("two levels");
+    let (mut cases, mut tally) = (Cases::new("step", "any_state_at_two_levels", 202), Tallies::default());
+    for _ in 0..800 {
+        cases.run(|random| walk(random, TWO_LEVELS, 40, &mut tally));
+    }
+    if cases.all() {
+        tally.finish(&format!("two levels, seed {}", cases.seed()));
+    }
 }
 
 #[test]
 fn any_state_at_three_levels() {
-    let (mut random, mut tally) = (Random::new(203), Tallies::default());
-    walks(&mut random, 2_097_664, 40, 20, &mut tally);
-    tally.print("three levels");
+    let (mut cases, mut tally) = (Cases::new("step", "any_state_at_three_levels", 203), Tallies::default());
+    for _ in 0..40 {
+        cases.run(|random| walk(random, THREE_LEVELS, 20, &mut tally));
+    }
+    tally.print(&format!("three levels, seed {}", cases.seed()));
 }

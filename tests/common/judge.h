@@ -1,0 +1,364 @@
+/* What calls may tell, by the scope document's definitions: the readings of a strip's words, and on an image the chain,
+ * whether each row is right, clear, freeze, inspect, opening and the readings of rows. Nothing of the library's is used. */
+#ifndef JUDGE_H
+#define JUDGE_H
+
+#include "borders.h"
+#include "refusals.h"
+
+#include <stddef.h>
+#include <stdint.h>
+#include <string.h>
+
+enum { ROWS = 64 };
+
+/* A row: its record's place, label and length, its bits, and whether its ones, entries and padding are those of its bits. */
+struct row {
+    uint64_t start, label, length;
+    const uint8_t *bits;
+    int right;
+};
+
+/* An image whose chain is sound, with its rows in chain order; or one whose chain is not. */
+struct judged {
+    int sound;
+    unsigned count;
+    struct row rows[ROWS];
+};
+
+static inline uint64_t little_endian(const uint8_t *s, unsigned bytes)
+{
+    uint64_t number = 0;
+    for (unsigned b = bytes; b > 0; b--)
+        number = 256 * number + s[b - 1];
+    return number;
+}
+
+static inline uint64_t bit(const uint8_t *bits, uint64_t p)
+{
+    return bits[p / 8] >> (p % 8) & 1;
+}
+
+static inline uint64_t superblocks(uint64_t length)
+{
+    return (length + 4095) / 4096;
+}
+
+static inline uint64_t record_size(uint64_t length)
+{
+    return 16 + 528 * superblocks(length);
+}
+
+/* The number in so many bits of an entry, from a bit of it on. */
+static inline uint64_t field(const uint8_t *entry, unsigned from, unsigned width)
+{
+    uint64_t number = 0;
+    for (unsigned b = 0; b < width; b++)
+        number |= bit(entry, from + b) << b;
+    return number;
+}
+
+static inline uint64_t ones_of(const uint8_t *bytes, uint64_t count)
+{
+    uint64_t ones = 0, b = 0, eight;
+    for (; b + 8 <= count; b += 8) {
+        memcpy(&eight, bytes + b, 8);
+        ones += (uint64_t)__builtin_popcountll(eight);
+    }
+    for (; b < count; b++)
+        ones += (uint64_t)__builtin_popcountll(bytes[b]);
+    return ones;
+}
+
+/* Whether the entry is that of its superblock, of which `before` ones of the row come before. */
+static inline int entry_right(const uint8_t *entry, const uint8_t *bytes, uint64_t before)
+{
+    uint64_t within = 0;
+    if (field(entry, 0, 44) != before)
+        return 0;
+    for (unsigned j = 1; j < 8; j++) {
+        within += ones_of(bytes + 64 * (j - 1), 64);
+        if (field(entry, 44 + 12 * (j - 1), 12) != within)
+            return 0;
+    }
+    return 1;
+}
+
+static inline int row_right(const uint8_t *record)
+{
+    uint64_t length = little_endian(record + 8, 4), number = superblocks(length), ones = 0;
+    const uint8_t *bits = record + 16 + 16 * number;
+    for (uint64_t p = length; p < 4096 * number; p++)
+        if (bit(bits, p) != 0)
+            return 0;
+    for (uint64_t e = 0; e < number; e++) {
+        if (!entry_right(record + 16 + 16 * e, bits + 512 * e, ones))
+            return 0;
+        ones += ones_of(bits + 512 * e, 512);
+    }
+    return little_endian(record + 12, 4) == ones;
+}
+
+static inline const struct row *row_of(const struct judged *j, uint64_t label)
+{
+    for (unsigned r = 0; r < j->count; r++)
+        if (j->rows[r].label == label)
+            return &j->rows[r];
+    return NULL;
+}
+
+/* One more record, at a byte of the image: whether the chain is sound so far. */
+static inline int take_record(struct judged *j, const uint8_t *s, uint64_t n, uint64_t start)
+{
+    if (start + 16 > n)
+        return 0;
+    uint64_t label = little_endian(s + start + 4, 4), length = little_endian(s + start + 8, 4);
+    if (label < 1 || label > 64)
+        return 0;
+    if (length > LARGEST)
+        return 0;
+    if (row_of(j, label) != NULL)
+        return 0;
+    if (start + record_size(length) > n)
+        return 0;
+    const uint8_t *bits = s + start + 16 + 16 * superblocks(length);
+    j->rows[j->count++] = (struct row){start, label, length, bits, row_right(s + start)};
+    return 1;
+}
+
+/* Walks the chain. Each next is 0 or not before its record's end, so the walk ends. */
+static inline void judge(struct judged *j, const uint8_t *s, uint64_t n)
+{
+    j->sound = 0;
+    j->count = 0;
+    if (n < 16 || n > UINT64_C(1) << 32)
+        return;
+    if (little_endian(s + 4, 4) != 1 || little_endian(s + 8, 8) != 0)
+        return;
+    for (uint64_t start = 16 * little_endian(s, 4); start != 0;) {
+        if (!take_record(j, s, n, start))
+            return;
+        uint64_t next = 16 * little_endian(s + start, 4);
+        if (next != 0 && next < start + record_size(j->rows[j->count - 1].length))
+            return;
+        start = next;
+    }
+    j->sound = 1;
+}
+
+/* ---- clear, freeze, inspect */
+
+/* clear: 13, or 16. */
+static inline uint64_t clear_answer(uint64_t size)
+{
+    return size < 16 || size > WIDE ? REFUSED(NO_ROOM) : 16;
+}
+
+/* 1 and 2 of a call with so many words lent, or 0. */
+static inline uint64_t handle_refused(uint64_t capacity, uint64_t length, uint64_t word_count)
+{
+    if (capacity % 512 != 0 || capacity < 512 || capacity > LARGEST || length > capacity)
+        return REFUSED(BAD_HANDLE);
+    return word_count != capacity / 64 ? REFUSED(WORD_COUNT) : 0;
+}
+
+/* Where the next record starts: at the last one's end, or at unit 1. */
+static inline uint64_t next_start(const struct judged *j)
+{
+    const struct row *last = j->count == 0 ? NULL : &j->rows[j->count - 1];
+    return last == NULL ? 16 : last->start + record_size(last->length);
+}
+
+/* freeze(label) of so many bits into an image of so many bytes, after 1 and 2: 10, 11, 12, 13, or its unit index. */
+static inline uint64_t freeze_answer(const struct judged *j, uint64_t size, uint64_t length, uint64_t label)
+{
+    if (!j->sound)
+        return REFUSED(UNSOUND);
+    if (label < 1 || label > 64)
+        return REFUSED(BAD_LABEL);
+    if (row_of(j, label) != NULL)
+        return REFUSED(LABEL_PRESENT);
+    return next_start(j) + record_size(length) > size ? REFUSED(NO_ROOM) : next_start(j) / 16;
+}
+
+/* inspect: 10, 15, or the number of rows. */
+static inline uint64_t inspect_answer(const struct judged *j)
+{
+    if (!j->sound)
+        return REFUSED(UNSOUND);
+    for (unsigned r = 0; r < j->count; r++)
+        if (!j->rows[r].right)
+            return REFUSED(WRONG_ROW);
+    return j->count;
+}
+
+/* ---- readings: of a row that was opened, or of none, which all get the refusal met before */
+
+struct opened {
+    const struct row *row;
+    uint64_t refused;
+};
+
+/* Opening a label's row: 10, 11, 14. */
+static inline struct opened open_row(const struct judged *j, uint64_t label)
+{
+    if (!j->sound)
+        return (struct opened){NULL, REFUSED(UNSOUND)};
+    if (label < 1 || label > 64)
+        return (struct opened){NULL, REFUSED(BAD_LABEL)};
+    const struct row *row = row_of(j, label);
+    return (struct opened){row, row == NULL ? REFUSED(LABEL_ABSENT) : 0};
+}
+
+/* A part of so many bytes with a length held: 10 where it is not exactly one record of that length. */
+static inline struct opened open_part(struct judged *one, const uint8_t *part, uint64_t size, uint64_t length)
+{
+    one->count = 0;
+    int whole = take_record(one, part, size, 0) && record_size(one->rows[0].length) == size;
+    const struct row *row = whole && one->rows[0].length == length ? &one->rows[0] : NULL;
+    return (struct opened){row, row == NULL ? REFUSED(UNSOUND) : 0};
+}
+
+/* Opening as it is told: the byte where the record starts, or the refusal. */
+static inline uint64_t open_answer(struct opened o)
+{
+    return o.row == NULL ? o.refused : o.row->start;
+}
+
+/* look(i): exact, on a wrong row too. */
+static inline uint64_t get_answer(struct opened o, uint64_t i)
+{
+    if (o.row == NULL)
+        return o.refused;
+    return i < o.row->length ? bit(o.row->bits, i) : REFUSED(POSITION);
+}
+
+/* How many of the first i bits are ones. */
+static inline uint64_t ones_before(const struct row *row, uint64_t i)
+{
+    uint64_t ones = ones_of(row->bits, i / 8);
+    for (uint64_t p = i / 8 * 8; p < i; p++)
+        ones += bit(row->bits, p);
+    return ones;
+}
+
+/* Whether count(v, i) may tell this: exact, but at most i or 15 on a wrong row. */
+static inline int rank_allowed(struct opened o, uint64_t v, uint64_t i, uint64_t told)
+{
+    if (o.row == NULL)
+        return told == o.refused;
+    if (v > 1)
+        return told == REFUSED(BAD_VALUE);
+    if (i > o.row->length)
+        return told == REFUSED(POSITION);
+    if (!o.row->right)
+        return told <= i || told == REFUSED(WRONG_ROW);
+    uint64_t ones = ones_before(o.row, i);
+    return told == (v == 1 ? ones : i - ones);
+}
+
+/* find(v, k) by definition: past whole blocks that have too few of v, then bit by bit. */
+static inline uint64_t found(const struct row *row, uint64_t v, uint64_t k)
+{
+    uint64_t p = 0;
+    for (; p + 512 <= row->length; p += 512) {
+        uint64_t ones = ones_of(row->bits + p / 8, 64), of_v = v == 1 ? ones : 512 - ones;
+        if (k < of_v)
+            break;
+        k -= of_v;
+    }
+    for (; p < row->length; p++) {
+        if (bit(row->bits, p) != v)
+            continue;
+        if (k == 0)
+            return p;
+        k--;
+    }
+    return REFUSED(NOT_FOUND);
+}
+
+/* Whether find(v, k) may tell this: exact, but a position below the length, 6 or 15 on a wrong row, and 6 there for k at or
+ * past the length. */
+static inline int select_allowed(struct opened o, uint64_t v, uint64_t k, uint64_t told)
+{
+    if (o.row == NULL)
+        return told == o.refused;
+    if (v > 1)
+        return told == REFUSED(BAD_VALUE);
+    if (k >= o.row->length)
+        return told == REFUSED(NOT_FOUND);
+    if (!o.row->right)
+        return told < o.row->length || told == REFUSED(NOT_FOUND) || told == REFUSED(WRONG_ROW);
+    return told == found(o.row, v, k);
+}
+
+/* ---- the calls on a strip's words alone. Words lie in memory as the bits of a row do. */
+
+/* The strip as a row, in `room`: 1, 2. */
+static inline struct opened open_strip(struct row *room, uint64_t capacity, uint64_t length, const void *words,
+                                       uint64_t word_count)
+{
+    uint64_t refused = handle_refused(capacity, length, word_count);
+    *room = (struct row){0, 0, length, words, 1};
+    return (struct opened){refused == 0 ? room : NULL, refused};
+}
+
+/* 1, 2, 8 and 4 of next and prior, or 0. */
+static inline uint64_t seek_refused(struct opened o, uint64_t v, uint64_t i)
+{
+    if (o.row == NULL)
+        return o.refused;
+    if (v > 1)
+        return REFUSED(BAD_VALUE);
+    return i > o.row->length ? REFUSED(POSITION) : 0;
+}
+
+/* next(v, i). */
+static inline uint64_t successor_answer(struct opened o, uint64_t v, uint64_t i)
+{
+    uint64_t refused = seek_refused(o, v, i);
+    if (refused != 0)
+        return refused;
+    for (uint64_t p = i; p < o.row->length; p++)
+        if (bit(o.row->bits, p) == v)
+            return p;
+    return REFUSED(NOT_FOUND);
+}
+
+/* prior(v, i). */
+static inline uint64_t predecessor_answer(struct opened o, uint64_t v, uint64_t i)
+{
+    uint64_t refused = seek_refused(o, v, i);
+    if (refused != 0)
+        return refused;
+    for (uint64_t p = i; p > 0; p--)
+        if (bit(o.row->bits, p - 1) == v)
+            return p - 1;
+    return REFUSED(NOT_FOUND);
+}
+
+/* The position of the k-th one of a word, or 64. */
+static inline uint64_t word_select_answer(uint64_t x, uint64_t k)
+{
+    for (uint64_t p = 0; p < 64; p++) {
+        if ((x >> p & 1) == 0)
+            continue;
+        if (k == 0)
+            return p;
+        k--;
+    }
+    return 64;
+}
+
+/* How many counters a capacity needs. */
+static inline size_t counter_count_of(size_t capacity)
+{
+    size_t nodes = 0, children = capacity / 512;
+    do {
+        children = (children + 63) / 64;
+        nodes += children;
+    } while (children > 1);
+    return 72 * nodes;
+}
+
+#endif
