@@ -19,6 +19,21 @@ CALLS = (
 )  # fmt: skip
 COLUMNS = ("library", "C++", "C++, checked", "scan", "scan, popcnt", "sdsl", "CRoaring")
 PAIR, NOISE, CHECKED = "library / C++", "C++ again / C++", "library / C++, checked"
+# A ratio that differs more than this from the quotient of the two times is marked.
+TENTH = 0.1
+# The table that the page opens with: a name, the calls that it stands for, the columns that their speed is held against.
+SUMMARY = (
+    ("count", ("count",), ("CRoaring", "sdsl")),
+    ("find", ("find 1", "find 0"), ("CRoaring", "sdsl", "scan")),
+    ("turn", ("turn",), ("CRoaring",)),
+    ("add", ("add",), ("CRoaring",)),
+    ("next", ("next",), ("CRoaring", "scan")),
+    ("run", ("run",), ()),
+    ("freeze", ("freeze",), ("memcpy",)),
+    ("inspect", ("inspect",), ()),
+    ("row count", ("row count",), ("scan",)),
+    ("row find", ("row find",), ()),
+)
 # What callgrind counted under these names.
 FUNCTIONS = {
     "count": ("strip_rank", "tree_rank"),
@@ -78,8 +93,23 @@ def duration(ns):
     return f"{ns / 1000:,.1f} µs"
 
 
-def spread(three):
-    return "" if three is None else f"{three[1]:.2f} ({three[0]:.2f}–{three[2]:.2f})"
+def spread(of, key, pair):
+    """A ratio with its quartiles, marked where the two times shown with it have another quotient."""
+    three = of.three("ratio", *key, pair)
+    if three is None:
+        return ""
+    over, under = (of.time(*key, column) for column in pair.split(" / "))
+    mark_ = "*" if pair != NOISE and abs(over / under / three[1] - 1) > TENTH else ""
+    return f"{three[1]:.2f}{mark_} ({three[0]:.2f}–{three[2]:.2f})"
+
+
+def with_note(lines):
+    """The table, with a line on its marked ratios where it has any."""
+    marked = sum(line.count("* (") for line in lines)
+    if not marked:
+        return lines
+    note = "a median over the rounds, more than a tenth off the quotient of the two medians of times (\"How it was measured\" says why)"
+    return lines + ["", f"\\* {note}: {marked} of the ratios above."]
 
 
 def calls_table(of, power):
@@ -88,10 +118,10 @@ def calls_table(of, power):
         for share in SHARES:
             key = power, share, call
             figures = [duration(of.time(*key, column)) for column in COLUMNS]
-            ratios = [spread(of.three("ratio", *key, pair)) for pair in (PAIR, NOISE, CHECKED)]
+            ratios = [spread(of, key, pair) for pair in (PAIR, NOISE, CHECKED)]
             rows.append([call, share, *figures[:2], *ratios[:2], figures[2], ratios[2], *figures[3:]])
     head = ["call", "ones", "library", "C++", PAIR, "C++ / C++", "C++, checked", CHECKED, *COLUMNS[3:]]
-    return table(head, rows)
+    return with_note(table(head, rows))
 
 
 def cells():
@@ -104,40 +134,91 @@ def within(of, kind, power, share, call, pair):
     return ratio[1] <= max(1, noise[2])
 
 
-def verdict(met):
-    return "met" if met else "missed"
+def verdict(met, of=9):
+    """Of so many cells in which an aim is met."""
+    return "met" if met == of else f"missed ({met} of {of})"
+
+
+def no_slower(of, calls, kind="ratio", pair=PAIR):
+    """In how many cells the calls are no slower than a C++ version, and in how many they were measured."""
+    met = [within(of, kind, *cell, call, pair) for call in calls for cell in cells()]
+    return sum(met), len(met)
+
+
+def speeds(of, call, column, mine=None, shares=SHARES, powers=POWERS):
+    """The library's speed over that of another column, by size and share of ones."""
+    return [of.time(p, s, call, column) / of.time(p, s, mine or call, "library") for p in powers for s in shares]
+
+
+def aims_of(of, name, calls):
+    aims = []
+    if name in ("count", "find", "turn", "add", "run"):
+        aims.append("no slower than C++: " + verdict(*no_slower(of, calls)))
+    if name in ("count", "find", "turn"):
+        aims.append("10 times CRoaring: " + verdict(sum(x >= 10 for x in speeds(of, calls[0], "CRoaring"))))
+    if name == "find":
+        parts = [x for call in calls for x in speeds(of, call, "scan", powers=("24",))]
+        aims.append("1/200 of the scan at 2^24: " + verdict(sum(x >= 200 for x in parts), len(parts)))
+    if name == "freeze":
+        parts = speeds(of, "freeze", "memcpy", powers=("24",))
+        aims.append("half of memcpy at 2^24: " + verdict(sum(x >= 0.5 for x in parts), len(parts)))
+    return "; ".join(aims) or "none set"
+
+
+def three_times(of, call):
+    times = [of.time(power, "32/64", call, "library") for power in POWERS]
+    if max(times) < 9995:
+        return " / ".join(f"{x:.1f}" for x in times) + " ns"
+    return " / ".join(f"{x / 1000:,.0f}" for x in times) + " µs"
+
+
+def figure(x):
+    """Two digits at least, and no more than it takes."""
+    return f"{x:,.0f}" if x >= 9.95 else f"{x:.1f}" if x >= 0.995 else f"{x:.2f}"
+
+
+def summary_table(of):
+    rows = []
+    for name, calls, columns in SUMMARY:
+        ratios = [of.three("ratio", power, "32/64", calls[0], PAIR)[1] for power in POWERS]
+        others = []
+        for column in columns:
+            others.append(f"{column} " + " / ".join(map(figure, speeds(of, calls[0], column, shares=("32/64",)))))
+        rows.append([name, three_times(of, calls[0]), " / ".join(f"{x:.2f}" for x in ratios), "; ".join(others), aims_of(of, name, calls)])
+    head = ["call", "library, at 2^20 / 2^24 / 2^27", "its time over C++", "its speed over that of", "aims"]
+    return table(head, rows)
 
 
 def aims_table(of):
+    kinds = [(level, kind, pair) for pair in (PAIR, CHECKED) for level, kind in (("-O3", "ratio"), ("-O2", "ratio-O2"))]
     rows = []
     for call in ("count", "find 1", "find 0", "turn", "add", "run"):
-        kinds = [(level, kind, pair) for pair in (PAIR, CHECKED) for level, kind in (("-O3", "ratio"), ("-O2", "ratio-O2"))]
-        for level, kind, pair in kinds:
+        row = [call]
+        for _, kind, pair in kinds:
             if of.three(kind, "20", "1/64", call, pair) is None:
+                row.append("")
                 continue
-            inside = [cell for cell in cells() if within(of, kind, *cell, call, pair)]
             ratios = [of.three(kind, *cell, call, pair)[1] for cell in cells()]
-            figure = f"ratio {min(ratios):.2f} to {max(ratios):.2f}; no slower in {len(inside)} of 9 cells"
-            name = pair.removeprefix("library / ")
-            rows.append([f"{call}: no slower than {name}, at {level}", figure, verdict(len(inside) == 9)])
+            row.append(f"{min(ratios):.2f} to {max(ratios):.2f}: " + verdict(*no_slower(of, [call], kind, pair)))
+        rows.append(row)
+    return table(["no slower than"] + [f"{pair.removeprefix('library / ')}, {level}" for level, _, pair in kinds], rows)
+
+
+def others_table(of):
+    rows = []
+
+    def row(aim, power, figures, met, form):
+        rows.append([aim, f"2^{power}", ", ".join(form.format(x) for x in figures), verdict(sum(map(met, figures)), len(figures))])
+
     for call in ("count", "find 1", "turn", "turn by flip_inplace"):
-        mine = call.removesuffix(" by flip_inplace")
         for power in POWERS:
-            pairs = [(of.time(power, s, call, "CRoaring"), of.time(power, s, mine, "library")) for s in SHARES]
-            if None in pairs[0]:
-                continue
-            times = [a / b for a, b in pairs]
-            figure = ", ".join(f"{x:.1f}" for x in times) + " times"
-            rows.append([f"{call} at 2^{power}: 10 times CRoaring's speed", figure, verdict(min(times) >= 10)])
+            mine = call.removesuffix(" by flip_inplace")
+            row(f"{call}: 10 times CRoaring's speed", power, speeds(of, call, "CRoaring", mine, powers=(power,)), lambda x: x >= 10, "{:.1f}")
     for call in ("find 1", "find 0"):
         for column in ("scan", "scan, popcnt"):
-            parts = [of.time("24", s, call, column) / of.time("24", s, call, "library") for s in SHARES]
-            figure = ", ".join(f"1/{x:.0f}" for x in parts)
-            rows.append([f"{call} at 2^24: 1/200 of the {column}", figure, verdict(min(parts) >= 200)])
-    speeds = [of.time("24", s, "freeze", "memcpy") / of.time("24", s, "freeze", "library") for s in SHARES]
-    figure = ", ".join(f"{x:.2f}" for x in speeds)
-    rows.append(["freeze at 2^24: half of memcpy's speed", figure, verdict(min(speeds) >= 0.5)])
-    return table(["aim", "figures (of several, by ones 1/64, 32/64, 63/64)", ""], rows)
+            row(f"{call}: 1/200 of the {column}", "24", speeds(of, call, column, powers=("24",)), lambda x: x >= 200, "1/{:.0f}")
+    row("freeze: half of memcpy's speed", "24", speeds(of, "freeze", "memcpy", powers=("24",)), lambda x: x >= 0.5, "{:.2f}")
+    return table(["aim", "bits", "reached, by ones 1/64, 32/64, 63/64", ""], rows)
 
 
 def freeze_table(of):
@@ -157,11 +238,11 @@ def alone_table(of):
             for note in ("", ", alone", ", alone, waiting", ", alone, 2 MiB pages"):
                 key = power, "32/64", call + note
                 times = [duration(of.time(*key, column)) for column in COLUMNS[:2]]
-                ratios = [spread(of.three("ratio", *key, pair)) for pair in (PAIR, NOISE)]
+                ratios = [spread(of, key, pair) for pair in (PAIR, NOISE)]
                 bytes_ = granted.get((power, "in 2 MiB pages" + note))
                 shown = "" if bytes_ is None else f"{bytes_ / (1 << 20):.0f} MiB"
                 rows.append([f"2^{power}", call, note.removeprefix(", ") or "among all", *times, *ratios, shown])
-    return table(["bits", "call", "", "library", "C++", "library / C++", "C++ / C++", "in 2 MiB pages"], rows)
+    return with_note(table(["bits", "call", "", "library", "C++", "library / C++", "C++ / C++", "in 2 MiB pages"], rows))
 
 
 def flips_table(of):
@@ -316,8 +397,8 @@ def times_plot(of):
 def main():
     of = Results()
     tables = {
-        "machine": machine_table, "aims": aims_table, "freeze": freeze_table, "alone": alone_table,
-        "flips": flips_table, "instructions": instructions_table, "memory": memory_table, "stack": stack_table,
+        "summary": summary_table, "machine": machine_table, "aims": aims_table, "others": others_table,
+        "freeze": freeze_table, "alone": alone_table, "flips": flips_table, "instructions": instructions_table, "memory": memory_table, "stack": stack_table,
         "size": size_table, "word": word_table,
     }  # fmt: skip
     made = {name: make(of) for name, make in tables.items()}
