@@ -8,7 +8,7 @@ use Rattle.words.specs.declared.handle.Handle.{Handle}
 use Rattle.words.specs.Bits.{listOf, same}
 use Rattle.words.specs.Strip.{cell, stripOf, rank, select}
 use Rattle.words.specs.Refusals.{Line, _⇒_, judge, unless, Told, value, refused, found}
-use Rattle.words.specs.Handles.{handle, handleOf, stripLines}
+use Rattle.words.specs.Handles.{allowed, handle, handleOf, stripLines}
 use Rattle.words.specs.Calls.{valueLine, belowLine, withinLine, absentLine}
 use Rattle.counters.specs.Tree.{blocksOf, counterCount, changeCount}
 use Rattle.counters.specs.Record.{StripRecord, Fits, builtRecord}
@@ -116,3 +116,7 @@ verifyTable h ws cs = checks h (length ws) (length cs) ++ ((not (fitting h ws cs
 -- it answers the ones
 abbrev pub verifyTold : Handle → List ℕ → List ℕ → Told
 verifyTold h ws cs = unless (judge (verifyTable h ws cs)) refused (value (rank (heldStrip h ws) 1 (h .length)))
+
+-- how many counters a capacity needs: 1 capacity not allowed
+abbrev pub countersTold : ℕ → Told
+countersTold c = unless (judge ((not (allowed c) ⇒ 1) ∷ [])) refused (value (counterCount (blocksOf c)))

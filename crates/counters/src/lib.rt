@@ -4,6 +4,7 @@ pub mod build;
 pub mod change;
 pub mod check;
 pub mod path;
+pub mod query;
 pub mod rank;
 pub mod read;
 pub mod select;
