@@ -59,7 +59,7 @@ pub fn row_part(image: &[u8], label: usize) -> &[u8]
 }
 
 // The length that a row's part gives; 0 for a part too short for a record.
-pub fn row_length(part: &[u8]) -> usize
+pub fn held_length(part: &[u8]) -> usize
     ensures { λ r. ⌜ r ≡ heldLength (now (part .entry)) ⌝ }
 {
     if part.len() < HEAD_BYTES {

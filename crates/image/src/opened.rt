@@ -2,7 +2,7 @@
 ghost use mathlib.Core.Path.{_≡_};
 ghost use Rattle.words.specs.Refusals.{toldOf};
 ghost use Rattle.image.specs.Calls.{openPart, heldLength, partGetTold, PartRanked, PartSelected};
-use super::open::row_length;
+use super::open::held_length;
 use super::open::row_part;
 use super::part::part_get;
 use super::part::part_rank;
@@ -28,7 +28,7 @@ impl<'a> Row<'a> {
         ensures { λ r. ⌜ (now (r .part) ≡ openPart (now (image .entry)) label) × (r .length ≡ heldLength (openPart (now (image .entry)) label)) ⌝ }
     {
         let part = row_part(image, label);
-        Row::new(part, row_length(part))
+        Row::new(part, held_length(part))
     }
 
     // look(i): the bit at position i.

@@ -1,4 +1,4 @@
--- `image::opened::Row::open` meets its contract: the walk of its code, by the contracts of `row_part`, `row_length` and `Row::new`. The image is copied for the
+-- `image::opened::Row::open` meets its contract: the walk of its code, by the contracts of `row_part`, `held_length` and `Row::new`. The image is copied for the
 -- first call, and the part for the second. Assumes nothing.
 use mathlib.Core.Path.{_≡_, refl, ap, _∙_}
 use mathlib.Core.List.{[], _∷_}
@@ -25,8 +25,8 @@ use Rattle.image.proofs.ShapeLaws.{machine, Shape, contractOf, at, Own,
 use Rattle.image.proofs.HeldLaws.{bytes, again, rowType, rowLaws, making, opening}
 use Rattle.image.proofs.open.row_part.Symbol as part
 use Rattle.image.proofs.open.row_part.Met as part-met
-use Rattle.image.proofs.open.row_length.Symbol as length
-use Rattle.image.proofs.open.row_length.Met as length-met
+use Rattle.image.proofs.open.held_length.Symbol as length
+use Rattle.image.proofs.open.held_length.Met as length-met
 use Rattle.image.proofs.opened.Row.new.Symbol as new
 use Rattle.image.proofs.opened.Row.new.Met as new-met
 use Rattle.image.proofs.opened.Row.«open».Key as key
@@ -37,7 +37,7 @@ use Rattle.image.proofs.opened.Row.«open».Statement.{statement}
 abbrev parting : Shape
 parting = record { first = bytes; count = 1; result = bytes .type; promise = λ κs s xs r. now r ≡ openPart (now s) (xs .0) }
 
--- `row_length`
+-- `held_length`
 abbrev measuring : Shape
 measuring = record { first = bytes; count = 0; result = λ κs. usize; promise = λ κs s xs m. m ≡ heldLength (now s) }
 
@@ -90,5 +90,5 @@ open-spec 𝓤 H 𝓜 𝓖 𝓡 =
     entered 𝓤 H (contractOf 𝓤 H (𝓖 .A) opening) (𝓣 .C) (𝓣 .Λ) key.name code.function (code.unfolded 𝓤 H 𝓜 𝓡)
     (walk-contract 𝓤 H (𝓖 .A) W opening 𝓣 code.function (walk 𝓤 H (𝓖 .A) W 𝓣
     (cited 𝓤 H (contractOf 𝓤 H (𝓖 .A) parting) 𝓜 𝓡 code.env part.name part.routine code.calls-image·open·row-part (part-met.met 𝓤 H 𝓜 𝓖 𝓡))
-    (cited 𝓤 H (contractOf 𝓤 H (𝓖 .A) measuring) 𝓜 𝓡 code.env length.name length.routine code.calls-image·open·row-length (length-met.met 𝓤 H 𝓜 𝓖 𝓡))
+    (cited 𝓤 H (contractOf 𝓤 H (𝓖 .A) measuring) 𝓜 𝓡 code.env length.name length.routine code.calls-image·open·held-length (length-met.met 𝓤 H 𝓜 𝓖 𝓡))
     (cited 𝓤 H (contractOf 𝓤 H (𝓖 .A) making) 𝓜 𝓡 code.env new.name new.routine code.calls-image·opened·Row·new (new-met.met 𝓤 H 𝓜 𝓖 𝓡))))

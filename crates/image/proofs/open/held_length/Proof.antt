@@ -1,12 +1,12 @@
--- `image::open::row_length` meets its contract: each return has the test that led there. Assumes nothing.
+-- `image::open::held_length` meets its contract: each return has the test that led there. Assumes nothing.
 use native.Mathlib.Omega.{arith}
 use borrow.Author.Needs.{needs}
 use borrow.Author.Tests.{lt-leb, le-leb}
 use lib.ListN.{length}
 use Rattle.image.specs.Layout.{headBytes}
 use Rattle.image.specs.Calls.{heldLength}
-use Rattle.image.proofs.open.row_length.Statement.{statement}
-use Rattle.image.proofs.open.row_length.Tie as tie
+use Rattle.image.proofs.open.held_length.Statement.{statement}
+use Rattle.image.proofs.open.held_length.Tie as tie
 
 returns : tie.Need-returns
 unfolding heldLength
@@ -19,5 +19,5 @@ returns-2 : tie.Need-returns-2
 unfolding heldLength
 returns-2 c = simp (le-leb headBytes (length (c .before .before .before .args .part .now)) (omega arith)) (c .length-at .ensures .0)
 
-pub row-length-spec : {M : Type 1} → statement M
-row-length-spec = tie.close (tie.spec returns length-at-requires returns-2)
+pub held-length-spec : {M : Type 1} → statement M
+held-length-spec = tie.close (tie.spec returns length-at-requires returns-2)
