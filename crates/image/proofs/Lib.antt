@@ -11,6 +11,7 @@ pub mod RightLaws
 pub mod ShelfLaws
 pub mod RowLaws
 pub mod InspectLaws
+pub mod QueryLaws
 pub mod OpenedLaws
 pub mod ShapeLaws
 pub mod HeldLaws

@@ -3,7 +3,7 @@ use Prim.Native.Nat.{ℕ, _+_, _/_}
 use mathlib.Core.Bool.{Bool, true, false, cond, not, _&&_}
 use mathlib.Core.List.{List, [], _∷_, _++_}
 use mathlib.Core.Option.{Option, some, none}
-use lib.ListN.{length, drop}
+use lib.ListN.{length, getD, drop}
 use lib.Seq.{sets}
 use lib.Dec.{leb, ltb, eqb}
 use Rattle.words.specs.declared.handle.Handle.{Handle}
@@ -14,8 +14,8 @@ use Rattle.words.specs.Handles.{untaken, stripLines}
 use Rattle.words.specs.Calls.{valueLine, belowLine, withinLine, absentLine}
 use Rattle.counters.specs.Promises.{Promise, AtMost, Below}
 use Rattle.image.specs.Bytes.{le}
-use Rattle.image.specs.Layout.{unitBytes, headBytes, sizeOf, recordOf}
-use Rattle.image.specs.Chain.{headerOf, lengthAt, goodLabel, goodFields, goodSize, chainOf, placeOf, chainEnd, linkOf}
+use Rattle.image.specs.Layout.{unitBytes, headBytes, mostRow, sizeOf, recordOf}
+use Rattle.image.specs.Chain.{headerOf, labelAt, lengthAt, goodLabel, goodFields, goodSize, chainOf, placeOf, chainEnd, linkOf}
 use Rattle.image.specs.Rows.{partAt, rowBits, rightPart, Right}
 
 -- whether there is something
@@ -171,3 +171,18 @@ abbrev pub RowSelected : List ℕ → ℕ → ℕ → ℕ → Told → Type 0
 RowSelected s label v k =
     Promise Told (judge (openTable s label ++ (valueLine v ∷ absentLine (rowLength s label) k ∷ []))) refused
     (found (select (rowBits (rowPart s label) (rowLength s label)) v k)) (Right (rowPart s label) (rowLength s label)) (Below 15 (rowLength s label))
+
+-- Queries about sizes, lengths and labels.
+
+-- the bytes of the record of n bits: 4 n above the longest row
+abbrev pub recordSizeTold : ℕ → Told
+recordSizeTold n = unless (judge (withinLine mostRow n ∷ [])) refused (value (sizeOf n))
+
+-- the length of a row, by its label: 10; 11; 14
+abbrev pub rowLengthTold : List ℕ → ℕ → Told
+rowLengthTold s label = unless (judge (openTable s label)) refused (value (rowLength s label))
+
+-- the label of the k-th row in the chain's order, from 0 on: 10; 14 k not below the number of rows
+abbrev pub rowLabelTold : List ℕ → ℕ → Told
+rowLabelTold s k =
+    unless (judge (soundLine (isSome (chainOf s)) ∷ (leb (length (recordsOf s)) k ⇒ 14) ∷ [])) refused (value (labelAt s (getD (recordsOf s) k 0)))

@@ -10,6 +10,7 @@ pub mod open;
 pub mod opened;
 pub mod part;
 pub mod put;
+pub mod query;
 pub mod reading;
 pub mod right;
 pub mod row;
