@@ -1,8 +1,10 @@
-// The calls of the bench display on an image: inspect, and the three row readings. A refusal comes as 2^32 plus its number.
+// What a bench display calls on an image: inspect, the three row readings, and the queries of its rows. A refusal comes as 2^32 plus its number.
 ghost use mathlib.Core.Path.{_≡_};
 ghost use Rattle.words.specs.Refusals.{coded as codedOf, CodedAs};
-ghost use Rattle.image.specs.Calls.{inspectTold, rowGetTold, RowRanked, RowSelected};
+ghost use Rattle.image.specs.Calls.{inspectTold, rowGetTold, RowRanked, RowSelected, rowLengthTold, rowLabelTold};
 use image::inspect::inspect;
+use image::query::row_label;
+use image::query::row_length;
 use image::row::row_get;
 use image::row::row_rank;
 use image::row::row_select;
@@ -10,7 +12,7 @@ use words::refusal::coded;
 
 // inspect: the number of rows.
 #[no_mangle]
-pub extern "C" fn strip_inspect(image: &[u8]) -> u64
+pub extern "C" fn image_inspect(image: &[u8]) -> u64
     ensures { λ r. ⌜ r ≡ codedOf (inspectTold (now (image .entry))) ⌝ }
 {
     coded(inspect(image))
@@ -18,7 +20,7 @@ pub extern "C" fn strip_inspect(image: &[u8]) -> u64
 
 // row count(v, i): how many of the first i bits of the label's row equal v.
 #[no_mangle]
-pub extern "C" fn strip_row_count(image: &[u8], label: u64, v: u64, i: u64) -> u64
+pub extern "C" fn image_row_rank(image: &[u8], label: u64, v: u64, i: u64) -> u64
     ensures { λ r. ⌜ CodedAs (RowRanked (now (image .entry)) label v i) r ⌝ }
 {
     coded(row_rank(image, label as usize, v, i as usize))
@@ -26,7 +28,7 @@ pub extern "C" fn strip_row_count(image: &[u8], label: u64, v: u64, i: u64) -> u
 
 // row find(v, k): the position in the label's row that holds v and has k of v before it.
 #[no_mangle]
-pub extern "C" fn strip_row_find(image: &[u8], label: u64, v: u64, k: u64) -> u64
+pub extern "C" fn image_row_select(image: &[u8], label: u64, v: u64, k: u64) -> u64
     ensures { λ r. ⌜ CodedAs (RowSelected (now (image .entry)) label v k) r ⌝ }
 {
     coded(row_select(image, label as usize, v, k as usize))
@@ -34,8 +36,24 @@ pub extern "C" fn strip_row_find(image: &[u8], label: u64, v: u64, k: u64) -> u6
 
 // row look(i): the bit at position i of the label's row.
 #[no_mangle]
-pub extern "C" fn strip_row_look(image: &[u8], label: u64, i: u64) -> u64
+pub extern "C" fn image_row_get(image: &[u8], label: u64, i: u64) -> u64
     ensures { λ r. ⌜ r ≡ codedOf (rowGetTold (now (image .entry)) label i) ⌝ }
 {
     coded(row_get(image, label as usize, i as usize))
+}
+
+// The length of the label's row, in bits.
+#[no_mangle]
+pub extern "C" fn image_row_length(image: &[u8], label: u64) -> u64
+    ensures { λ r. ⌜ r ≡ codedOf (rowLengthTold (now (image .entry)) label) ⌝ }
+{
+    coded(row_length(image, label as usize))
+}
+
+// The label of the k-th row, in chain order.
+#[no_mangle]
+pub extern "C" fn image_row_label(image: &[u8], k: u64) -> u64
+    ensures { λ r. ⌜ r ≡ codedOf (rowLabelTold (now (image .entry)) k) ⌝ }
+{
+    coded(row_label(image, k as usize))
 }

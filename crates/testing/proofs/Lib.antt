@@ -1,2 +1,2 @@
-pub mod ExportLaws
 pub mod OpenedWalk
+pub mod StepLaws

@@ -1,99 +1,45 @@
-// The calls on an image. A refusal comes as 2^32 plus its number.
+// Opening a row, the calls on a row's part, and those on an opened row. A refusal comes as 2^32 plus its number.
 ghost use mathlib.Core.Path.{_≡_};
 ghost use Rattle.words.specs.Refusals.{toldOf, coded as codedOf, CodedAs};
-ghost use Rattle.words.specs.Handles.{handle};
-ghost use Rattle.image.specs.Calls.{clearOutcome, freezeOutcome, openTold, openPart, heldLength, partGetTold, PartRanked, PartSelected, rowGetTold, RowRanked, RowSelected};
-use image::clear::clear;
-use image::freeze::freeze;
+ghost use Rattle.image.specs.Calls.{openTold, openPart, heldLength, partGetTold, PartRanked, PartSelected, rowGetTold, RowRanked, RowSelected};
 use image::open::open_row;
 use image::opened::Row;
 use image::part::part_get;
 use image::part::part_rank;
 use image::part::part_select;
-use image::row::row_get;
-use image::row::row_rank;
-use image::row::row_select;
-use words::handle::Handle;
 use words::refusal::Answer;
 use words::refusal::coded;
 
-// clear: the header of an empty chain.
-#[no_mangle]
-pub extern "C" fn image_clear(image: &mut [u8]) -> u64
-    ensures { λ r. ⌜ (r ≡ codedOf (clearOutcome (now (image .entry)) .told)) × (now (image .exit) ≡ clearOutcome (now (image .entry)) .image) ⌝ }
-{
-    coded(clear(image))
-}
-
-// freeze(label): the strip's record after the last one.
-#[no_mangle]
-pub extern "C" fn image_freeze(
-    capacity: usize,
-    length: usize,
-    words: &[u64],
-    image: &mut [u8],
-    label: usize,
-) -> u64
-    ensures { λ r. ⌜ (r ≡ codedOf (freezeOutcome (handle capacity length) (now (words .entry)) (now (image .entry)) label .told)) ×
-        (now (image .exit) ≡ freezeOutcome (handle capacity length) (now (words .entry)) (now (image .entry)) label .image) ⌝ }
-{
-    coded(freeze(Handle::new(capacity, length), words, image, label))
-}
-
 // Opening: the byte where the label's record starts.
 #[no_mangle]
-pub extern "C" fn image_open(image: &[u8], label: usize) -> u64
+pub extern "C" fn image_open(image: &[u8], label: u64) -> u64
     ensures { λ r. ⌜ r ≡ codedOf (openTold (now (image .entry)) label) ⌝ }
 {
-    coded(open_row(image, label))
+    coded(open_row(image, label as usize))
 }
 
 // look(i) on a row's part and a held length.
 #[no_mangle]
-pub extern "C" fn image_part_get(part: &[u8], n: usize, i: usize) -> u64
+pub extern "C" fn image_part_get(part: &[u8], n: u64, i: u64) -> u64
     ensures { λ r. ⌜ r ≡ codedOf (partGetTold (now (part .entry)) n i) ⌝ }
 {
-    coded(part_get(part, n, i))
+    coded(part_get(part, n as usize, i as usize))
 }
 
 // count(v, i) on a row's part and a held length.
 #[no_mangle]
-pub extern "C" fn image_part_rank(part: &[u8], n: usize, v: u64, i: usize) -> u64
+pub extern "C" fn image_part_rank(part: &[u8], n: u64, v: u64, i: u64) -> u64
     ensures { λ r. ⌜ CodedAs (PartRanked (now (part .entry)) n v i) r ⌝ }
 {
-    coded(part_rank(part, n, v, i))
+    coded(part_rank(part, n as usize, v, i as usize))
 }
 
 // find(v, k) on a row's part and a held length.
 #[no_mangle]
-pub extern "C" fn image_part_select(part: &[u8], n: usize, v: u64, k: usize) -> u64
+pub extern "C" fn image_part_select(part: &[u8], n: u64, v: u64, k: u64) -> u64
     ensures { λ r. ⌜ CodedAs (PartSelected (now (part .entry)) n v k) r ⌝ }
 {
-    coded(part_select(part, n, v, k))
-}
-
-// row look(i): the bit at position i of the label's row.
-#[no_mangle]
-pub extern "C" fn image_row_get(image: &[u8], label: usize, i: usize) -> u64
-    ensures { λ r. ⌜ r ≡ codedOf (rowGetTold (now (image .entry)) label i) ⌝ }
-{
-    coded(row_get(image, label, i))
-}
-
-// row count(v, i): how many of the first i bits of the label's row equal v.
-#[no_mangle]
-pub extern "C" fn image_row_rank(image: &[u8], label: usize, v: u64, i: usize) -> u64
-    ensures { λ r. ⌜ CodedAs (RowRanked (now (image .entry)) label v i) r ⌝ }
-{
-    coded(row_rank(image, label, v, i))
-}
-
-// row find(v, k): the position in the label's row that holds v and has k of v before it.
-#[no_mangle]
-pub extern "C" fn image_row_select(image: &[u8], label: usize, v: u64, k: usize) -> u64
-    ensures { λ r. ⌜ CodedAs (RowSelected (now (image .entry)) label v k) r ⌝ }
-{
-    coded(row_select(image, label, v, k))
+    coded(part_select(part, n as usize, v, k as usize))
 }
 
 // look(i) on an opened row.
@@ -117,26 +63,38 @@ fn opened_select(image: &[u8], label: usize, v: u64, k: usize) -> Answer
     Row::open(image, label).select(v, k)
 }
 
-// Opening a row, then look(i) on it.
+// Opening a row, then look(i) on it; a refusal of the opening passes through unchanged.
 #[no_mangle]
-pub extern "C" fn image_opened_get(image: &[u8], label: usize, i: usize) -> u64
-    ensures { λ r. ⌜ r ≡ codedOf (partGetTold (openPart (now (image .entry)) label) (heldLength (openPart (now (image .entry)) label)) i) ⌝ }
+pub extern "C" fn image_opened_get(image: &[u8], label: u64, i: u64) -> u64
+    ensures { λ r. ⌜ r ≡ codedOf (rowGetTold (now (image .entry)) label i) ⌝ }
 {
-    coded(opened_get(image, label, i))
+    let o = open_row(image, label as usize);
+    let Answer::Value(_) = o else {
+        return coded(o);
+    };
+    coded(opened_get(image, label as usize, i as usize))
 }
 
-// Opening a row, then count(v, i) on it.
+// Opening a row, then count(v, i) on it; a refusal of the opening passes through unchanged.
 #[no_mangle]
-pub extern "C" fn image_opened_rank(image: &[u8], label: usize, v: u64, i: usize) -> u64
-    ensures { λ r. ⌜ CodedAs (PartRanked (openPart (now (image .entry)) label) (heldLength (openPart (now (image .entry)) label)) v i) r ⌝ }
+pub extern "C" fn image_opened_rank(image: &[u8], label: u64, v: u64, i: u64) -> u64
+    ensures { λ r. ⌜ CodedAs (RowRanked (now (image .entry)) label v i) r ⌝ }
 {
-    coded(opened_rank(image, label, v, i))
+    let o = open_row(image, label as usize);
+    let Answer::Value(_) = o else {
+        return coded(o);
+    };
+    coded(opened_rank(image, label as usize, v, i as usize))
 }
 
-// Opening a row, then find(v, k) on it.
+// Opening a row, then find(v, k) on it; a refusal of the opening passes through unchanged.
 #[no_mangle]
-pub extern "C" fn image_opened_select(image: &[u8], label: usize, v: u64, k: usize) -> u64
-    ensures { λ r. ⌜ CodedAs (PartSelected (openPart (now (image .entry)) label) (heldLength (openPart (now (image .entry)) label)) v k) r ⌝ }
+pub extern "C" fn image_opened_select(image: &[u8], label: u64, v: u64, k: u64) -> u64
+    ensures { λ r. ⌜ CodedAs (RowSelected (now (image .entry)) label v k) r ⌝ }
 {
-    coded(opened_select(image, label, v, k))
+    let o = open_row(image, label as usize);
+    let Answer::Value(_) = o else {
+        return coded(o);
+    };
+    coded(opened_select(image, label as usize, v, k as usize))
 }

@@ -1,5 +1,4 @@
-// The calls for C and Rust; tests, examples and benchmarks link them.
+// What tests alone need for C: scripts of calls and single steps, select in a word, the calls on a row's part and on an opened row.
 pub mod images;
-pub mod record;
 pub mod script;
-pub mod strip;
+pub mod word;

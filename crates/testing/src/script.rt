@@ -3,10 +3,10 @@ ghost use Rattle.words.specs.Handles.{handle};
 ghost use Rattle.machine.specs.Scripts.{called};
 ghost use Rattle.machine.specs.Unit.{stripRecord, unitState, Acted};
 ghost use Rattle.machine.specs.Runner.{ended, Executed};
-ghost use Rattle.testing.specs.Exports.{lentAll, StepReported};
-use super::record::write_five;
+ghost use Rattle.testing.specs.Steps.{lentAll, StepReported};
 use machine::execute::execute;
 use machine::step::step;
+use strips::record::write_five;
 use words::handle::Handle;
 
 // The opening lay and clear, clear's refusals first where `order` is not 0, then every call of a script.

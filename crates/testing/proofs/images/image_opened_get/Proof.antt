@@ -1,18 +1,59 @@
--- `testing::images::image_opened_get` meets its contract: it is that of `opened_get`, then that of `coded`. Assumes nothing.
+-- `testing::images::image_opened_get` meets its contract: a refusal of the opening is the reading's, and the call on the opened row is the reading by label.
+-- Assumes nothing.
 use mathlib.Core.Path.{ap, _∙_}
+use mathlib.Core.List.{[], _∷_}
 use borrow.Author.Needs.{needs}
 use Rattle.words.specs.Refusals.{coded}
+use Rattle.words.specs.Calls.{belowLine}
+use Rattle.image.specs.Calls.{rowLength}
+use Rattle.image.proofs.ChainLaws.{opened-value}
+use Rattle.image.proofs.RowLaws.{row-refused}
+use Rattle.image.proofs.OpenedLaws.{opened-look}
 use Rattle.testing.proofs.images.image_opened_get.Statement.{statement}
 use Rattle.testing.proofs.images.image_opened_get.Tie as tie
 
-opened-get-requires : tie.Need-opened-get-requires
-opened-get-requires c κs = search needs
+open-row-requires : tie.Need-open-row-requires
+open-row-requires c κs = search needs
+
+enum-told : tie.Need-enum-told
+enum-told c = search needs
+
+enum-told-2 : tie.Need-enum-told-2
+enum-told-2 c = search needs
 
 coded-requires : tie.Need-coded-requires
 coded-requires c κs = search needs
 
 returns : tie.Need-returns
-returns c = c .coded .ensures ∙ ap coded (c .before .opened-get .ensures)
+returns c =
+    let a = c .before .before .before .before .before .args in
+    c .coded .ensures
+    ∙ ap coded
+    (row-refused (a .image .now) (a .label) _ _ (belowLine (rowLength (a .image .now) (a .label)) (a .i) ∷ [])
+    (c .before .before .before .open-row .ensures) (c .before .enum-told2 .given .1) _)
+
+opened-get-requires : tie.Need-opened-get-requires
+opened-get-requires c κs = search needs
+
+coded-requires-2 : tie.Need-coded-requires-2
+coded-requires-2 c κs = search needs
+
+returns-2 : tie.Need-returns-2
+returns-2 c =
+    let a = c .before .before .before .before .before .before .args in
+    let passed =
+    opened-value (a .image .now) (a .label) _ _ (c .before .before .before .before .open-row .ensures) (c .before .before .enum-told .given .1) .0 in
+    c .coded2 .ensures ∙ ap coded (c .before .opened-get .ensures ∙ opened-look (a .image .now) (a .label) passed (a .i))
 
 pub image-opened-get-spec : {M : Type 1} → statement M
-image-opened-get-spec = tie.close (tie.spec opened-get-requires coded-requires returns)
+image-opened-get-spec =
+    tie.close
+    (tie.spec
+    open-row-requires
+    enum-told
+    enum-told-2
+    coded-requires
+    returns
+    opened-get-requires
+    coded-requires-2
+    returns-2)

@@ -5,8 +5,8 @@ use Rattle.words.specs.declared.handle.Handle.{Handle}
 use Rattle.words.specs.Handles.{handle}
 use Rattle.machine.specs.Scripts.{called}
 use Rattle.machine.specs.Unit.{stripRecord, unitState, Acted}
-use Rattle.testing.specs.Exports.{lentAll}
-use Rattle.testing.proofs.ExportLaws.{step-idle, step-ran}
+use Rattle.testing.specs.Steps.{lentAll}
+use Rattle.testing.proofs.StepLaws.{step-idle, step-ran}
 use Rattle.testing.proofs.script.strip_step.Statement.{statement}
 use Rattle.testing.proofs.script.strip_step.Tie as tie
 

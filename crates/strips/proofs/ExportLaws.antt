@@ -1,0 +1,51 @@
+-- The laws of what the exported calls give. Assumes nothing.
+use mathlib.Core.Path.{_≡_, refl, sym, ap, _∙_, subst}
+use mathlib.Core.Bool.{Bool, cond}
+use mathlib.Core.List.{List, [], _∷_}
+use Prim.Native.Nat.{ℕ, _≤_, _<_}
+use native.Mathlib.Omega.{arith}
+use lib.ListN.{length, set}
+use borrow.Author.Tests.{lt-ltb, le-ltb}
+use Rattle.words.specs.declared.handle.Handle.{Handle}
+use Rattle.words.specs.Refusals.{Told, coded, CodedAs}
+use Rattle.counters.specs.Promises.{ChangedTold, Outcome, outcome}
+use Rattle.strips.specs.Exports.{five, changedFive, fiveOver, lent, lentAfter, reported, Reported}
+
+-- five stores at the front
+pub set-five : (os : List ℕ) (n x y : ℕ) (h : Handle) → 5 ≤ length os
+    → set (set (set (set (set os 0 n) 1 x) 2 y) 3 (h .capacity)) 4 (h .length) ≡ fiveOver (five n x y h) os
+set-five (a ∷ b ∷ c ∷ d ∷ e ∷ os) n x y h le = refl
+set-five [] n x y h le = absurd (omega arith)
+set-five (a ∷ []) n x y h le = absurd (omega arith)
+set-five (a ∷ b ∷ []) n x y h le = absurd (omega arith)
+set-five (a ∷ b ∷ c ∷ []) n x y h le = absurd (omega arith)
+set-five (a ∷ b ∷ c ∷ d ∷ []) n x y h le = absurd (omega arith)
+
+-- a reading, under the handle made of the two numbers
+pub coded-as : (P : Handle → Told → Type 0) (g h : Handle) (t : Told) (r : ℕ) → g ≡ h → P g t → r ≡ coded t → CodedAs (P h) r
+coded-as P g h t r e p c = record { told = t; holds = subst (λ (k : Handle). P k t) e p; code = c }
+
+-- a call whose outcome is fixed: too short an `out`
+pub reported-idle : {A : Type 0} (numbers : A → List ℕ) (ws cs os : List ℕ) (o : Outcome A) → length os < 5
+    → lent ws cs os ≡ reported numbers ws cs os o
+reported-idle numbers ws cs os o l = sym (ap (λ (b : Bool). cond b (lent ws cs os) (lentAfter numbers os o)) (lt-ltb (length os) 5 l))
+
+-- and run
+pub reported-ran : {A : Type 0} (numbers : A → List ℕ) (ws cs os vs ds es : List ℕ) (t : A) (o : Outcome A) → 5 ≤ length os
+    → outcome t vs ds ≡ o → es ≡ fiveOver (numbers t) os → lent vs ds es ≡ reported numbers ws cs os o
+reported-ran numbers ws cs os vs ds es t o le e w =
+    ap (lent vs ds) w ∙ ap (lentAfter numbers os) e
+    ∙ sym (ap (λ (b : Bool). cond b (lent ws cs os) (lentAfter numbers os o)) (le-ltb (length os) 5 le))
+
+-- a change with a free part: too short an `out`
+pub some-idle : (P : Outcome ChangedTold → Type 0) (ws cs os : List ℕ) → length os < 5 → Reported P ws cs os (lent ws cs os)
+some-idle P ws cs os l = record { idle = (λ h. refl); ran = (λ h. absurd (omega arith)) }
+
+-- and run, under the handle made of the two numbers
+pub some-ran : (P : Handle → Outcome ChangedTold → Type 0) (g h : Handle) (ws cs os vs ds es : List ℕ) (t : ChangedTold) → g ≡ h → 5 ≤ length os
+    → P g (outcome t vs ds) → es ≡ fiveOver (changedFive t) os → Reported (P h) ws cs os (lent vs ds es)
+some-ran P g h ws cs os vs ds es t e le p w =
+    record {
+      idle = (λ l. absurd (omega arith));
+      ran = (λ l. record { outcome = outcome t vs ds; holds = subst (λ (k : Handle). P k (outcome t vs ds)) e p; same = ap (lent vs ds) w });
+    }

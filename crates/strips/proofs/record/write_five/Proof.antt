@@ -1,0 +1,40 @@
+-- `strips::record::write_five` meets its contract: five stores. Assumes nothing.
+use native.Mathlib.Omega.{arith}
+use borrow.Author.Needs.{needs}
+use lib.ListN.{length-set}
+use Rattle.strips.proofs.ExportLaws.{set-five}
+use Rattle.strips.proofs.record.write_five.Statement.{statement}
+use Rattle.strips.proofs.record.write_five.Tie as tie
+
+slice-write-out : tie.Need-slice-write-out
+slice-write-out c = search needs
+
+slice-write-out-2 : tie.Need-slice-write-out-2
+slice-write-out-2 c = simp length-set (omega arith)
+
+slice-write-out-3 : tie.Need-slice-write-out-3
+slice-write-out-3 c = simp length-set (omega arith)
+
+slice-write-out-4 : tie.Need-slice-write-out-4
+slice-write-out-4 c = simp length-set (omega arith)
+
+slice-write-out-5 : tie.Need-slice-write-out-5
+slice-write-out-5 c = search needs
+
+same-length : tie.Need-same-length
+same-length c = search needs
+
+returns : tie.Need-returns
+returns c = set-five (c .args .out .now) (c .args .refusal) (c .args .x) (c .args .y) (c .args .h) (c .pre)
+
+pub write-five-spec : {M : Type 1} → statement M
+write-five-spec =
+    tie.close
+    (tie.spec
+    slice-write-out
+    slice-write-out-2
+    slice-write-out-3
+    slice-write-out-4
+    slice-write-out-5
+    same-length
+    returns)

@@ -1,0 +1,58 @@
+-- What the exported calls give. Assumes nothing.
+use Prim.Native.Nat.{ℕ, _≤_, _<_}
+use mathlib.Core.Path.{_≡_}
+use mathlib.Core.Bool.{Bool, cond}
+use mathlib.Core.List.{List, [], _∷_, _++_}
+use lib.ListN.{length, drop}
+use lib.Dec.{ltb}
+use Rattle.words.specs.declared.handle.Handle.{Handle}
+use Rattle.words.specs.Handles.{handle}
+use Rattle.counters.specs.Promises.{CreatedTold, created, uncreated, ChangedTold, done, kept, Outcome}
+
+-- five numbers: refusal or 0, first value, second value or 0, capacity and length of the handle to go on with
+abbrev pub five : ℕ → ℕ → ℕ → Handle → List ℕ
+five n x y h = n ∷ x ∷ y ∷ h .capacity ∷ h .length ∷ []
+
+abbrev pub changedFive : ChangedTold → List ℕ
+changedFive (done h x y) = five 0 x y h
+changedFive (kept h n) = five n 0 0 h
+
+-- a refused lay gives no handle: 0, 0
+abbrev pub createdFive : CreatedTold → List ℕ
+createdFive (created h x) = five 0 x 0 h
+createdFive (uncreated n) = five n 0 0 (handle 0 0)
+
+-- the first five numbers of `out` are xs, those past the fifth stay
+abbrev pub fiveOver : List ℕ → List ℕ → List ℕ
+fiveOver xs out = xs ++ drop 5 out
+
+-- the three lent buffers
+pub record Lent : Type 0 where
+  pub words : List ℕ
+  pub counters : List ℕ
+  pub out : List ℕ
+
+abbrev pub lent : List ℕ → List ℕ → List ℕ → Lent
+lent ws cs os = record { words = ws; counters = cs; out = os }
+
+-- the buffers after a call with this outcome
+abbrev pub lentAfter : {A : Type 0} → (A → List ℕ) → List ℕ → Outcome A → Lent
+lentAfter numbers os o = lent (o .words) (o .counters) (fiveOver (numbers (o .told)) os)
+
+-- `out` has fewer than five numbers: nothing runs
+abbrev pub short : List ℕ → Bool
+short os = ltb (length os) 5
+
+-- a call whose outcome is fixed
+abbrev pub reported : {A : Type 0} → (A → List ℕ) → List ℕ → List ℕ → List ℕ → Outcome A → Lent
+reported numbers ws cs os o = cond (short os) (lent ws cs os) (lentAfter numbers os o)
+
+-- a change with some outcome of which P holds
+pub record ChangeRan (P : Outcome ChangedTold → Type 0) (os : List ℕ) (l : Lent) : Type 0 where
+  pub outcome : Outcome ChangedTold
+  pub holds : P outcome
+  pub same : l ≡ lentAfter changedFive os outcome
+
+pub record Reported (P : Outcome ChangedTold → Type 0) (ws cs os : List ℕ) (l : Lent) : Type 0 where
+  pub idle : length os < 5 → l ≡ lent ws cs os
+  pub ran : 5 ≤ length os → ChangeRan P os l
