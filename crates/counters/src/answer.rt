@@ -1,6 +1,6 @@
 // What the calls that change a record answer.
-use words::handle::Handle;
-use words::refusal::Refusal;
+use words::Handle;
+use words::Refusal;
 
 // The answer of laying a record: its handle and the number of counters.
 pub enum Created {

@@ -13,7 +13,7 @@ use super::shape::above;
 use super::shape::height_of;
 use super::shape::node_ones;
 use super::shape::ones_held;
-use words::block::block_ones;
+use words::block_ones;
 
 // The ones of child m of level t + 1, where `below` is level t: of block m, or of node m by its last summary and its last key; 0 for a child that is not there.
 fn child_ones(words: &[u64], counters: &[u32], t: usize, below: Level, m: usize) -> u32

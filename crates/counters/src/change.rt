@@ -15,13 +15,13 @@ use super::check::check_push;
 use super::check::check_record;
 use super::check::check_truncate;
 use super::path::move_path;
-use words::fill::flip_position;
-use words::fill::put_position;
-use words::fill::put_positions;
-use words::fill::zero_words;
-use words::handle::BLOCK_BITS;
-use words::handle::Handle;
-use words::refusal::Verdict;
+use words::BLOCK_BITS;
+use words::Handle;
+use words::Verdict;
+use words::flip_position;
+use words::put_position;
+use words::put_positions;
+use words::zero_words;
 
 // Makes all counters 0.
 fn zero_counters(counters: &mut [u32])

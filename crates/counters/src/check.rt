@@ -3,12 +3,12 @@ ghost use mathlib.Core.Path.{_≡_};
 ghost use Rattle.words.specs.Refusals.{judge, verdictOf};
 ghost use Rattle.counters.specs.Calls.{checks, pushTable, flipTable, fillTable, truncateTable, rankTable, selectTable};
 use super::shape::counter_count;
-use words::handle::Handle;
-use words::handle::check_strip;
-use words::refusal::Refusal;
-use words::refusal::Verdict;
-use words::strip::check_below;
-use words::strip::check_value;
+use words::Handle;
+use words::Refusal;
+use words::Verdict;
+use words::check_below;
+use words::check_strip;
+use words::check_value;
 
 // 1, 2, 3; `words` and `counters` are the numbers of words and counters lent.
 pub fn check_record(h: Handle, words: usize, counters: usize) -> Verdict

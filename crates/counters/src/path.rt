@@ -8,7 +8,7 @@ use super::shape::NODE_COUNTERS;
 use super::shape::from_block;
 use super::shape::height_of;
 use super::shape::up;
-use words::handle::BLOCK_BITS;
+use words::BLOCK_BITS;
 
 // Adds to each of eight numbers its step, modulo 2^32.
 fn add_each(lanes: &mut [u32], steps: &[u32])

@@ -3,9 +3,9 @@ ghost use mathlib.Core.Path.{_≡_};
 ghost use Rattle.words.specs.Refusals.{toldOf};
 ghost use Rattle.counters.specs.Calls.{countersTold};
 use super::shape::counter_count;
-use words::handle::allowed;
-use words::refusal::Answer;
-use words::refusal::Refusal;
+use words::Answer;
+use words::Refusal;
+use words::allowed;
 
 // How many counters a capacity needs.
 pub fn counters_needed(capacity: usize) -> Answer

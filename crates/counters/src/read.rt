@@ -2,20 +2,20 @@
 ghost use mathlib.Core.Path.{_≡_};
 ghost use Rattle.words.specs.Refusals.{toldOf};
 ghost use Rattle.counters.specs.Calls.{Ranked, Selected, verifyTold};
+use super::ascent::ones_before;
 use super::check::check_rank;
 use super::check::check_record;
 use super::check::check_select;
-use super::rank::ones_before;
-use super::select::select_position;
+use super::descent::select_position;
+use super::fit::counters_fit;
 use super::shape::ones_held;
-use super::verify::counters_fit;
-use words::bits::of_value;
-use words::handle::BLOCK_BITS;
-use words::handle::Handle;
-use words::refusal::Answer;
-use words::refusal::Refusal;
-use words::refusal::Verdict;
-use words::scan::first_from;
+use words::Answer;
+use words::BLOCK_BITS;
+use words::Handle;
+use words::Refusal;
+use words::Verdict;
+use words::first_from;
+use words::of_value;
 
 // count(v, i): how many of the first i bits equal v.
 pub fn rank(h: Handle, words: &[u64], counters: &[u32], v: u64, i: usize) -> Answer

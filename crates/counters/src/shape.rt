@@ -4,7 +4,7 @@ ghost use Prim.Native.Nat.{_+_, _^_, _<_, _≤_};
 ghost use lib.ListN.{length};
 ghost use Rattle.counters.specs.Tree.{blocksOf, height, counterCount};
 ghost use Rattle.counters.specs.Working.{TreeOver, nodesOver, mostPair, onesFrom, RoomAbove, Above, Up, OnesHeld};
-use words::handle::BLOCK_BITS;
+use words::BLOCK_BITS;
 
 // The children of a node.
 pub const CHILDREN: usize = 64;

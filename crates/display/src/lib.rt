@@ -2,13 +2,13 @@
 ghost use mathlib.Core.Path.{_≡_};
 ghost use Rattle.words.specs.Refusals.{coded as codedOf, CodedAs};
 ghost use Rattle.image.specs.Calls.{inspectTold, rowGetTold, RowRanked, RowSelected, rowLengthTold, rowLabelTold};
-use image::inspect::inspect;
-use image::query::row_label;
-use image::query::row_length;
-use image::row::row_get;
-use image::row::row_rank;
-use image::row::row_select;
-use words::refusal::coded;
+use image::inspect;
+use image::row_get;
+use image::row_label;
+use image::row_length;
+use image::row_rank;
+use image::row_select;
+use words::coded;
 
 // inspect: the number of rows.
 #[no_mangle]

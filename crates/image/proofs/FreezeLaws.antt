@@ -16,8 +16,8 @@ use Rattle.words.specs.Refusals.{numberOf, judge, verdictOf, unless, value, ref
 use Rattle.words.specs.Handles.{untaken, stripLines}
 use Rattle.words.proofs.BoolLaws.{not-not}
 use Rattle.words.proofs.CheckLaws.{Checked, checked, passes, passed-both, passed-first, refused-first}
-use Rattle.image.specs.declared.freeze.Place.{Place}
-use Rattle.image.specs.declared.freeze.Place.the-variants as place
+use Rattle.image.specs.declared.freezing.Place.{Place}
+use Rattle.image.specs.declared.freezing.Place.the-variants as place
 use Rattle.image.specs.Bytes.{le}
 use Rattle.image.specs.Layout.{unitBytes, mostLabel, sizeOf, recordOf}
 use Rattle.image.specs.Chain.{goodLabel, chainOf, chainEnd, linkOf}

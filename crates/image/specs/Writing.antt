@@ -10,8 +10,8 @@ use Rattle.words.specs.Strip.{cell}
 use Rattle.words.specs.declared.handle.Handle.{Handle}
 use Rattle.words.specs.Refusals.{numberOf, judge, unless}
 use Rattle.image.specs.declared.write.Target.{Target}
-use Rattle.image.specs.declared.freeze.Place.{Place}
-use Rattle.image.specs.declared.freeze.Place.the-variants as place
+use Rattle.image.specs.declared.freezing.Place.{Place}
+use Rattle.image.specs.declared.freezing.Place.the-variants as place
 use Rattle.image.specs.Bytes.{le}
 use Rattle.image.specs.Layout.{superblockBits, superblockBytes, entryBytes, mostRow, superblockEntry, entriesFrom, bytesOf}
 use Rattle.image.specs.Chain.{chainEnd, linkOf}

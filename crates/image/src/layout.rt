@@ -3,8 +3,8 @@ ghost use mathlib.Core.Path.{_≡_};
 ghost use Prim.Native.Nat.{_^_, _<_, _≤_};
 ghost use Rattle.image.specs.Layout.{mostRow, superblocksOf, bitsStart, sizeOf};
 ghost use Rattle.image.specs.Chain.{goodLabel, goodSize};
-use words::handle::BLOCK_BITS;
-use words::handle::MOST_BITS;
+use words::BLOCK_BITS;
+use words::MOST_BITS;
 
 // A unit of the image, in bytes.
 pub const UNIT_BYTES: usize = 16;

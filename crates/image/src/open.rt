@@ -13,8 +13,8 @@ use super::fields::length_at;
 use super::fields::record_end;
 use super::layout::HEAD_BYTES;
 use super::layout::label_good;
-use words::refusal::Answer;
-use words::refusal::Refusal;
+use words::Answer;
+use words::Refusal;
 
 // The byte where the label's record starts.
 pub fn open_row(image: &[u8], label: usize) -> Answer

@@ -7,7 +7,7 @@ use super::open::row_part;
 use super::part::part_get;
 use super::part::part_rank;
 use super::part::part_select;
-use words::refusal::Answer;
+use words::Answer;
 
 // An opened row: its own part of the image, and its length in bits.
 pub struct Row<'a> {

@@ -10,9 +10,9 @@ use super::layout::record_size;
 use super::reading::part_bit;
 use super::reading::part_ones_before;
 use super::reading::part_position;
-use words::bits::of_value;
-use words::refusal::Answer;
-use words::refusal::Refusal;
+use words::Answer;
+use words::Refusal;
+use words::of_value;
 
 // Whether a part is exactly one record with label and length in range, of length n.
 pub fn check_part(part: &[u8], n: usize) -> bool

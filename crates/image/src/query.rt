@@ -13,8 +13,8 @@ use super::fields::next_record;
 use super::layout::MOST_ROW;
 use super::layout::record_size;
 use super::open::open_row;
-use words::refusal::Answer;
-use words::refusal::Refusal;
+use words::Answer;
+use words::Refusal;
 
 // The bytes of the record of a row of n bits.
 pub fn record_bytes(n: usize) -> Answer

@@ -16,11 +16,11 @@ use super::layout::BLOCK_BYTES;
 use super::layout::ENTRY_BYTES;
 use super::layout::HEAD_BYTES;
 use super::layout::bits_start;
-use words::bits::bit_of;
-use words::bits::of_value;
-use words::block::block_rank;
-use words::block::block_select;
-use words::handle::BLOCK_BITS;
+use words::BLOCK_BITS;
+use words::bit_of;
+use words::block_rank;
+use words::block_select;
+use words::of_value;
 
 // How many values a field of an entry has: 44 bits for the ones before its superblock, 12 for those of the superblock before one of its blocks.
 const SUPERBLOCK_FIELD: u64 = 1 << 44;

@@ -22,7 +22,7 @@ use super::layout::bits_start;
 use super::layout::superblocks_of;
 use super::reading::block_at;
 use super::write::entry_halves;
-use words::block::block_ones;
+use words::block_ones;
 
 // Whether a row's bits from position n on are zero, to the end of its last superblock: a word at a time, the first without its bits before n.
 fn padding_zero(part: &[u8], n: usize) -> bool

@@ -21,8 +21,8 @@ use super::layout::superblocks_of;
 use super::put::put_bytes;
 use super::put::put_le;
 use super::put::put_word;
-use words::bits::low_mask;
-use words::bits::ones_of;
+use words::low_mask;
+use words::ones_of;
 
 // Word w of the first n bits of the words, zero past them.
 fn strip_word(words: &[u64], w: usize, n: usize) -> u64

@@ -1,3 +1,9 @@
 // The rows of an image as text.
-pub mod number;
-pub mod rows;
+mod number;
+mod rows;
+
+// Open to users: no `requires`, and a promise for every input.
+pub use rows::Listed;
+pub use rows::MOST_LISTED;
+pub use rows::TEXT_BYTES;
+pub use rows::write_rows;

@@ -9,17 +9,17 @@ ghost use Rattle.image.specs.Calls.{recordsOf};
 ghost use Rattle.listing.specs.Text.{rowLine, rowsText, refusedLine, tooLongLine, textOf, textBytes, writtenOf, outcome, listingOutcome};
 ghost use Rattle.listing.specs.Working.{Put};
 use super::number::put_ended;
-use image::fields::first_record;
-use image::fields::label_at;
-use image::fields::length_at;
-use image::fields::next_record;
-use image::fields::ones_at;
-use image::inspect::inspect;
-use image::layout::MOST_LABEL;
-use image::put::put_bytes;
-use words::refusal::Answer;
-use words::refusal::Refusal;
-use words::refusal::number;
+use image::MOST_LABEL;
+use image::first_record;
+use image::inspect;
+use image::label_at;
+use image::length_at;
+use image::next_record;
+use image::ones_at;
+use image::put_bytes;
+use words::Answer;
+use words::Refusal;
+use words::number;
 
 // The longest image that is listed, in bytes.
 pub const MOST_LISTED: usize = 65536;

@@ -8,7 +8,7 @@ use Rattle.words.specs.declared.handle.Handle.{Handle}
 use Rattle.counters.specs.Record.{StripRecord}
 use Rattle.counters.specs.Promises.{CreatedTold, ChangedTold, Outcome, outcome}
 use Rattle.image.specs.Calls.{ImageOutcome, imageOutcome}
-use Rattle.machine.specs.declared.step.Reply.{Reply}
+use Rattle.machine.specs.declared.dispatch.Reply.{Reply}
 use Rattle.machine.specs.Machine.{Step, tells, through}
 use Rattle.machine.specs.Scripts.{callOf, called}
 use Rattle.machine.specs.Unit.{UnitState, stripRecord, createdStep, changedStep, byCreated, byChanged, BySome, Acted, replyStep, unitStep}

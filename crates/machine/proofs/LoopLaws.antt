@@ -6,7 +6,7 @@ use native.Mathlib.Omega.{arith}
 use lib.ListN.{length, getD, set, take, drop, length-drop, length-append}
 use lib.Seq.{drop-cons, sets, length-sets, sets-eq}
 use Rattle.image.proofs.PutLaws.{sets-join}
-use Rattle.machine.specs.declared.step.Reply.{Reply}
+use Rattle.machine.specs.declared.dispatch.Reply.{Reply}
 use Rattle.machine.specs.Machine.{Call, Step, answers}
 use Rattle.machine.specs.Scripts.{callNumbers, called, decode}
 use Rattle.machine.specs.Unit.{UnitState, Acted, replyStep, unitStep}

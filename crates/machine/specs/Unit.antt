@@ -10,7 +10,7 @@ use Rattle.counters.specs.Promises.{CreatedTold, created, uncreated, ChangedTol
 use Rattle.counters.specs.Calls.{createOutcome, Pushed, Flipped, fillOutcome, truncateOutcome, Ranked, Selected, verifyTold}
 use Rattle.image.specs.Shelf.{written}
 use Rattle.image.specs.Calls.{ImageOutcome, clearOutcome, freezeOutcome, inspectTold, rowGetTold, RowRanked, RowSelected}
-use Rattle.machine.specs.declared.step.Reply.{Reply}
+use Rattle.machine.specs.declared.dispatch.Reply.{Reply}
 use Rattle.machine.specs.Machine.{StripState, ShelfState, State, StripCall, create, push, flip, fill, truncate, get, rank, select, successor, predecessor, verify, ShelfCall, clear, freeze, inspect, rowRank, rowSelect, rowGet, Call, onStrip, onShelf, Step, accepted, refuses, tells, through}
 
 -- the handle in use with the lent words and counters, and the lent image

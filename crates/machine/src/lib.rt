@@ -1,3 +1,7 @@
 // The runner: scripts of calls over one set of lent buffers, from an opening lay and clear.
-pub mod execute;
-pub mod step;
+mod dispatch;
+mod runner;
+
+// Open to users: no `requires`, and a promise for every input.
+pub use dispatch::step;
+pub use runner::execute;

@@ -3,17 +3,17 @@ ghost use mathlib.Core.Path.{_≡_};
 ghost use Rattle.words.specs.Refusals.{coded as codedOf, CodedAs};
 ghost use Rattle.words.specs.Handles.{handle};
 ghost use Rattle.image.specs.Calls.{clearOutcome, freezeOutcome, inspectTold, rowGetTold, RowRanked, RowSelected, recordSizeTold, rowLengthTold, rowLabelTold};
-use image::clear::clear;
-use image::freeze::freeze;
-use image::inspect::inspect;
-use image::query::record_bytes;
-use image::query::row_label;
-use image::query::row_length;
-use image::row::row_get;
-use image::row::row_rank;
-use image::row::row_select;
-use words::handle::Handle;
-use words::refusal::coded;
+use image::clear;
+use image::freeze;
+use image::inspect;
+use image::record_bytes;
+use image::row_get;
+use image::row_label;
+use image::row_length;
+use image::row_rank;
+use image::row_select;
+use words::Handle;
+use words::coded;
 
 // clear: the header of an empty chain.
 #[no_mangle]

@@ -1,4 +1,30 @@
-// The calls for C, one function each, and the queries of sizes and rows: what libstrips.a exports.
-pub mod images;
-pub mod record;
-pub mod strip;
+// What libstrips.a exports: the seventeen calls for C, one function each, and the queries of sizes and rows.
+mod images;
+mod record;
+mod strip;
+
+// Open to users: no `requires`, and a promise for every input.
+pub use images::image_clear;
+pub use images::image_freeze;
+pub use images::image_inspect;
+pub use images::image_record_size;
+pub use images::image_row_get;
+pub use images::image_row_label;
+pub use images::image_row_length;
+pub use images::image_row_rank;
+pub use images::image_row_select;
+pub use record::strip_create;
+pub use record::strip_fill;
+pub use record::strip_flip;
+pub use record::strip_push;
+pub use record::strip_rank;
+pub use record::strip_select;
+pub use record::strip_truncate;
+pub use record::strip_verify;
+pub use strip::strip_counter_count;
+pub use strip::strip_get;
+pub use strip::strip_predecessor;
+pub use strip::strip_successor;
+
+// For the exports of tests.
+pub use record::write_five;

@@ -8,19 +8,19 @@ ghost use Rattle.counters.specs.Promises.{createdOf, changedOf};
 ghost use Rattle.counters.specs.Calls.{Ranked, Selected, verifyTold, createOutcome, Pushed, Flipped, fillOutcome, truncateOutcome};
 ghost use Rattle.words.specs.Refusals.{coded as codedOf, CodedAs};
 ghost use Rattle.strips.specs.Exports.{five, changedFive, createdFive, fiveOver, lent, reported, Reported};
-use counters::answer::Changed;
-use counters::answer::Created;
-use counters::change::create;
-use counters::change::fill;
-use counters::change::flip;
-use counters::change::push;
-use counters::change::truncate;
-use counters::read::rank;
-use counters::read::select;
-use counters::read::verify;
-use words::handle::Handle;
-use words::refusal::coded;
-use words::refusal::number;
+use counters::Changed;
+use counters::Created;
+use counters::create;
+use counters::fill;
+use counters::flip;
+use counters::push;
+use counters::rank;
+use counters::select;
+use counters::truncate;
+use counters::verify;
+use words::Handle;
+use words::coded;
+use words::number;
 
 // count(v, i): how many of the first i bits equal v.
 #[no_mangle]

@@ -4,12 +4,12 @@ ghost use Rattle.words.specs.Refusals.{coded as codedOf};
 ghost use Rattle.words.specs.Handles.{handle};
 ghost use Rattle.words.specs.Calls.{getTold, successorTold, predecessorTold};
 ghost use Rattle.counters.specs.Calls.{countersTold};
-use counters::query::counters_needed;
-use words::handle::Handle;
-use words::refusal::coded;
-use words::strip::get;
-use words::strip::predecessor;
-use words::strip::successor;
+use counters::counters_needed;
+use words::Handle;
+use words::coded;
+use words::get;
+use words::predecessor;
+use words::successor;
 
 // look(i): the bit at position i.
 #[no_mangle]

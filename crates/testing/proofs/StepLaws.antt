@@ -5,7 +5,7 @@ use Prim.Native.Nat.{ℕ, _≤_, _<_}
 use native.Mathlib.Omega.{arith}
 use lib.ListN.{length}
 use Rattle.words.specs.declared.handle.Handle.{Handle}
-use Rattle.machine.specs.declared.step.Reply.{Reply}
+use Rattle.machine.specs.declared.dispatch.Reply.{Reply}
 use Rattle.machine.specs.Machine.{Step}
 use Rattle.machine.specs.Unit.{UnitState, unitStep}
 use Rattle.strips.specs.Exports.{five, fiveOver}

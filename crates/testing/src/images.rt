@@ -2,13 +2,13 @@
 ghost use mathlib.Core.Path.{_≡_};
 ghost use Rattle.words.specs.Refusals.{toldOf, coded as codedOf, CodedAs};
 ghost use Rattle.image.specs.Calls.{openTold, openPart, heldLength, partGetTold, PartRanked, PartSelected, rowGetTold, RowRanked, RowSelected};
-use image::open::open_row;
-use image::opened::Row;
-use image::part::part_get;
-use image::part::part_rank;
-use image::part::part_select;
-use words::refusal::Answer;
-use words::refusal::coded;
+use image::Row;
+use image::open_row;
+use image::part_get;
+use image::part_rank;
+use image::part_select;
+use words::Answer;
+use words::coded;
 
 // Opening: the byte where the label's record starts.
 #[no_mangle]

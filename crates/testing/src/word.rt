@@ -1,7 +1,7 @@
 // Select in a word.
 ghost use mathlib.Core.Path.{_≡_};
 ghost use Rattle.words.specs.Words.{selectIn};
-use words::select::select_in_word;
+use words::select_in_word;
 
 // The position of the k-th one of a word, k from 0, or 64 where it has too few.
 #[no_mangle]

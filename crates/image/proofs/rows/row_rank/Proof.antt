@@ -1,0 +1,58 @@
+-- `image::rows::row_rank` meets its contract: the promise of `part_rank`, carried over to the label's row. Assumes nothing.
+use mathlib.Core.List.{[], _∷_}
+use Rattle.words.specs.Calls.{valueLine, withinLine}
+use Rattle.image.specs.Calls.{rowLength}
+use Rattle.image.proofs.RowLaws.{row-refused-promise, row-inside, row-room, row-held, row-count}
+use borrow.Author.Needs.{needs}
+use Rattle.image.proofs.rows.row_rank.Statement.{statement}
+use Rattle.image.proofs.rows.row_rank.Tie as tie
+
+open-row-requires : tie.Need-open-row-requires
+open-row-requires c κs = search needs
+
+enum-known-o : tie.Need-enum-known-o
+enum-known-o c = search needs
+
+enum-told : tie.Need-enum-told
+enum-told c = search needs
+
+returns : tie.Need-returns
+returns c =
+    let a = c .before .before .before .before .args in
+    row-refused-promise (a .image .now) (a .label) _ _ (valueLine (a .v) ∷ withinLine (rowLength (a .image .now) (a .label)) (a .i) ∷ [])
+    (c .before .before .open-row .ensures) (c .enum-told .given .1) _ _ _
+
+record-part-requires : tie.Need-record-part-requires
+record-part-requires c κs =
+    let a = c .before .before .before .before .before .args in
+    row-inside (a .image .now) (a .label) _ _ (c .before .before .before .open-row .ensures) (c .before .o .given .1)
+
+length-at-requires : tie.Need-length-at-requires
+length-at-requires c κs =
+    let a = c .before .before .before .before .before .before .args in
+    row-room (a .image .now) (a .label) _ _ (c .before .before .before .before .open-row .ensures) (c .before .before .o .given .1)
+    _ (c .record-part .ensures)
+
+part-rank-requires : tie.Need-part-rank-requires
+part-rank-requires c κs = search needs
+
+returns-2 : tie.Need-returns-2
+returns-2 c =
+    let a = c .before .before .before .before .before .before .before .before .args in
+    let row =
+    row-held (a .image .now) (a .label) _ _ (c .before .before .before .before .before .before .open-row .ensures) (c .before .before .before .before .o .given .1)
+    _ _ (c .before .before .record-part .ensures) (c .before .length-at .ensures .0) in
+    row-count row (a .v) (a .i) _ (c .part-rank .ensures)
+
+pub row-rank-spec : {M : Type 1} → statement M
+row-rank-spec =
+    tie.close
+    (tie.spec
+    open-row-requires
+    enum-known-o
+    enum-told
+    returns
+    record-part-requires
+    length-at-requires
+    part-rank-requires
+    returns-2)
