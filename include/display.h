@@ -1,26 +1,36 @@
-/* The proved calls of the bench display on an image of frozen rows, as in target/staticlib/libdisplay.a.
+/* The proved calls that read an image of frozen rows, and the refusals of all calls.
  *
- * An image holds rows, in a chain of records. A row has a label from 1 to 64 and a strip of L bits, L at most
- * 134,217,728; position 0 comes first, 1 is a misfire, 0 a good firing.
+ * libdisplay.a has these six functions and nothing else. libstrips.a has them too, beside those of strips.h, which
+ * includes this header. A program links one of the two libraries. The first words of a call's comment, as row
+ * count(v, i), are its name in the scope document.
  *
- * Each call is lent the image's bytes, `image_len` of them from `image` on, and only reads them. They have to stay there,
- * unchanged, until the call returns; it keeps nothing, and any bytes may be lent, of any length. With `image_len` 0,
- * `image` may be NULL. Numbers are 64 bits wide and none is cut: a v of 2^32 + 1 is refused like any other that is neither
- * 0 nor 1.
+ * AN IMAGE is a run of bytes that holds up to 64 rows. A ROW is a strip that was frozen: a list of bits, position 0
+ * first, of a length from 0 to 134,217,728, under a label from 1 to 64. 1 is a misfire, 0 a good firing. The rows
+ * form a chain: each row's record tells where the next one stands. image_freeze (strips.h) appends at the chain's
+ * end, so that chain order is the order of freezing. A record also holds the row's number of ones and an index of
+ * counts, its entries; its bits are padded with zeros to a multiple of 4,096.
  *
- * Each call answers the value, which is below 2^32, or 2^32 plus the number of a refusal. Refusals are judged in the order
- * named with the call, and the first that applies is given; but on a wrong row find may give 15 before 6:
- *   4  a position above the row's length; for strip_row_look also at it
- *   6  no such stroke: k is not below the number of v in the row
- *   8  v neither 0 nor 1
- *  10  no sound chain: the image is not 16 to 2^32 bytes long, its header is wrong, a record does not lie inside the
- *      image, a label or a length is out of range, a label occurs twice, or a next index leads before its record's end
- *  11  a label not from 1 to 64
- *  14  no row has the label
- *  15  a wrong row: its ones, entries or padding are not those of its bits
+ * The chain is SOUND when the image has 16 to 2^32 bytes, its header is right, every record lies inside the image,
+ * every label and length is in range, no label occurs twice, and every next record starts at or past the end of the
+ * one before it. What lies between records is not read. A row is RIGHT when its number of ones, its entries and its
+ * padding are those of its bits, else WRONG. Where image_inspect accepts an image, its chain is sound and every row
+ * is right.
  *
- * On a wrong row a count is at most i, or 15; a find is a position below the length, 6 or 15, and 6 where k
- * is at or past the length; a look reads the bit. On every other row 15 never occurs, whatever the rows beside it hold.
+ * LENDING. A call is lent the bytes image[0] to image[image_len - 1], at any address, and only reads them. Nobody
+ * changes them until it returns. It allocates nothing and keeps nothing. Any bytes may be lent, of any length: what
+ * is not a sound image is refused 10, as an image of no bytes, which may be NULL. What no call can see is the
+ * caller's to keep: that so many bytes are there.
+ *
+ * NUMBERS. Every argument is taken as the 64-bit number that it is, and none is cut: a v of 2^32 + 1 is refused as
+ * neither 0 nor 1, a label of 2^32 + 3 as none from 1 to 64, an i of 2^64 - 1 as a position above the length.
+ *
+ * ANSWERS. A call answers its value, which is below 2^32, or 2^32 plus the number of a refusal: see STRIP_REFUSED.
+ * The refusals of a call are named with it in the order in which they are judged, and the first that applies is
+ * given. After a semicolon stands what depends on the bytes of the row itself. Below each call stands what the inputs
+ * at its edges get: a value, or "refused" with the number.
+ *
+ * TIME. Every call walks the chain, over 12 bytes of each record. Then image_inspect reads every record whole,
+ * image_row_select searches by halving, and the others take constant time.
  */
 #ifndef DISPLAY_H
 #define DISPLAY_H
@@ -32,19 +42,88 @@
 extern "C" {
 #endif
 
-/* inspect: reads the whole of every row. Value: the number of rows, 0 to 64; every row is then right. Refusals: 10, 15. */
-uint64_t strip_inspect(const uint8_t *image, size_t image_len);
+/* Why a call is refused. A length is that of the strip or of the row. */
+enum strip_refusal {
+    STRIP_BAD_HANDLE = 1,     /* capacity not a multiple of 512 from 512 to 134,217,728, or length above capacity */
+    STRIP_WORD_COUNT = 2,     /* words_len not capacity / 64 */
+    STRIP_COUNTER_COUNT = 3,  /* counters_len not the number that the capacity needs */
+    STRIP_POSITION = 4,       /* a position above the length; for a get or a flip also at the length.
+                                 image_record_size: a length above 134,217,728 */
+    STRIP_SPAN = 5,           /* a span whose start is above its end */
+    STRIP_NOT_FOUND = 6,      /* no such position; for a select: k not below the number of v */
+    STRIP_FULL = 7,           /* length at capacity */
+    STRIP_BAD_VALUE = 8,      /* v neither 0 nor 1 */
+    STRIP_UNFIT = 9,          /* the record does not fit: a one at or past the length, or a wrong counter */
+    STRIP_UNSOUND = 10,       /* the image's chain is not sound */
+    STRIP_BAD_LABEL = 11,     /* a label not from 1 to 64 */
+    STRIP_LABEL_PRESENT = 12, /* a row has the label already */
+    STRIP_NO_ROOM = 13,       /* image_clear: an image under 16 or over 2^32 bytes; image_freeze: the record would not
+                                 end inside the image */
+    STRIP_LABEL_ABSENT = 14,  /* no row has the label; image_row_label: k not below the number of rows */
+    STRIP_WRONG_ROW = 15      /* a row's ones, entries or padding are not those of its bits */
+};
 
-/* row count(v, i): how many of the first i bits of the label's row equal v; position i itself is not counted, and i may
- * be the length. Refusals: 10, 11, 14, 8, 4, 15. */
-uint64_t strip_row_count(const uint8_t *image, size_t image_len, uint64_t label, uint64_t v, uint64_t i);
+/* Whether an answer is a refusal. Evaluates its argument once. */
+#define STRIP_REFUSED(answer) ((uint64_t)(answer) >= UINT64_C(4294967296))
 
-/* row find(v, k): the position in the label's row that holds v and has k of v before it; k starts at 0. Refusals: 10, 11,
- * 14, 8, 6, 15. */
-uint64_t strip_row_find(const uint8_t *image, size_t image_len, uint64_t label, uint64_t v, uint64_t k);
+/* Which refusal it is, as an enum strip_refusal; of an accepted answer it means nothing. Evaluates its argument once.
+ * */
+#define STRIP_REFUSAL(answer) ((enum strip_refusal)(uint32_t)(answer))
 
-/* row look(i): the bit at position i of the label's row. Refusals: 10, 11, 14, 4. */
-uint64_t strip_row_look(const uint8_t *image, size_t image_len, uint64_t label, uint64_t i);
+/* inspect.
+ * Value: the number of rows, 0 to 64. Every row is then right, so that every rank, select and get on it is that of
+ * its bits.
+ * Refusals: 10; 15.
+ *   NULL, 0 or any image under 16 or over 2^32 bytes     refused 10
+ *   a chain that is not sound                            refused 10, wrong rows or not
+ *   a sound chain with no row                            0
+ *   a sound chain with a wrong row                       refused 15 */
+uint64_t image_inspect(const uint8_t *image, size_t image_len);
+
+/* row count(v, i).
+ * Value: how many of the first i bits of the label's row equal v, 0 to i. The bit at position i is not counted.
+ * Refusals: 10, 11, 14, 8, 4; 15.
+ *   i = 0                       0, also in an empty row
+ *   i = length                  all of v in the row
+ *   i above that                refused 4
+ *   v above 1                   refused 8
+ *   label 0, 65                 refused 11
+ *   a wrong row                 at most i, or refused 15; on a right row never 15, whatever the rows beside it are */
+uint64_t image_row_rank(const uint8_t *image, size_t image_len, uint64_t label, uint64_t v, uint64_t i);
+
+/* row find(v, k).
+ * Value: the position in the label's row that holds v and has k of v before it; k starts at 0, so that k = 0 asks for
+ * the first v.
+ * Refusals: 10, 11, 14, 8, 6; 15.
+ *   k below the number of v     a position, below the length
+ *   k at or past it             refused 6, in an empty row for every k
+ *   v above 1                   refused 8
+ *   label 0, 65                 refused 11
+ *   a wrong row                 refused 6 where k is at or past the length; else a position below the length, or
+ *                               refused 6, or 15, and 15 may come where the bits alone would say 6. On a right row
+ *                               never 15, whatever the rows beside it are */
+uint64_t image_row_select(const uint8_t *image, size_t image_len, uint64_t label, uint64_t v, uint64_t k);
+
+/* row look(i).
+ * Value: the bit at position i of the label's row, 0 or 1.
+ * Refusals: 10, 11, 14, 4.
+ *   i = length or above     refused 4, in an empty row for every i
+ *   label 0, 65             refused 11
+ *   a wrong row             the bit, as on a right one */
+uint64_t image_row_get(const uint8_t *image, size_t image_len, uint64_t label, uint64_t i);
+
+/* Value: the length of the label's row in bits, 0 to 134,217,728.
+ * Refusals: 10, 11, 14.
+ *   label 0, 65     refused 11
+ *   a wrong row     the length that its record tells */
+uint64_t image_row_length(const uint8_t *image, size_t image_len, uint64_t label);
+
+/* Value: the label of the k-th row in chain order, 1 to 64; k starts at 0. For all labels ask with k = 0 on, below
+ * the number of rows that image_inspect answers, or up to the first 14.
+ * Refusals: 10, 14.
+ *   k = the number of rows, or above     refused 14, on an empty chain for every k
+ *   a wrong row                          its label */
+uint64_t image_row_label(const uint8_t *image, size_t image_len, uint64_t k);
 
 #ifdef __cplusplus
 }

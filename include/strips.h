@@ -1,0 +1,241 @@
+/* The proved calls on a strip and on an image of frozen rows, as in libstrips.a. display.h has the refusals, how an
+ * answer tells one, and the calls that read an image; this header has the others. The first words of a call's
+ * comment, as add(v), are its name in the scope document.
+ *
+ * A STRIP is a list of bits, position 0 first; 1 is a misfire, 0 a good firing. Its capacity is a multiple of 512,
+ * from 512 to 134,217,728, and its length is at most its capacity.
+ *
+ * A RECORD is the memory of a strip: STRIP_WORDS(capacity) words and STRIP_COUNTERS(capacity) counters, which the
+ * caller supplies, and of which each call is lent exactly so many. Position p is bit p % 64 of words[p / 64], where
+ * bit 0 has weight 1. The counters tell how many ones lie before a place, and only the calls read and write them. A
+ * record FITS when every bit at and past the length is 0 and every counter is that of the bits. Where accepted,
+ * strip_create, strip_fill and strip_truncate always leave a record that fits; strip_push and strip_flip do where it
+ * fitted before. (The record of a row, in an image, is another thing: see display.h.)
+ *
+ * A HANDLE is a capacity and a length, the first two arguments of most calls. The caller keeps it: strip_create gives
+ * the first, and every other change the one to go on with.
+ *
+ * LENDING. A call is lent the elements x[0] to x[x_len - 1] of each buffer x. They are aligned for their type, words
+ * and out to 8 bytes, counters to 4, image to 1. The buffers of one call do not overlap, and nobody else uses what it
+ * writes, or changes what it reads, until it returns. It allocates nothing and keeps nothing. A buffer of length 0
+ * may be NULL. What no call can see is the caller's to keep: that so many elements are there, aligned and apart. All
+ * else is judged, and any numbers and any contents may be given.
+ *
+ * NUMBERS. Every argument is taken as the 64-bit number that it is, and none is cut: a v of 2^32 + 1 is refused 8, a
+ * capacity of 2^32 + 512 is refused 1.
+ *
+ * REFUSALS are named with each call in the order in which they are judged, and the first that applies is given. A
+ * refused call changes no word, no counter and no byte of an image. Of every call that takes a record or its words:
+ *   1   capacity not a multiple of 512 from 512 to 134,217,728, as 0, or a length above the capacity
+ *   2   words_len not capacity / 64; NULL, 0 is always too few
+ *   3   counters_len, where counters are taken, not STRIP_COUNTERS(capacity); NULL, 0 is always too few
+ * After a semicolon stands what depends on the record's contents. Below each call stands what the inputs at its edges
+ * get: a value, or "refused" with the number.
+ *
+ * TIME. strip_create, strip_fill, strip_truncate and strip_verify go over all words and counters, strip_successor and
+ * strip_predecessor from word to word up to the first hit, image_freeze over the words up to the length. The other
+ * calls on a strip take constant time.
+ */
+#ifndef STRIPS_H
+#define STRIPS_H
+
+#include "display.h"
+
+#ifdef __cplusplus
+extern "C" {
+#endif
+
+/* ---- Sizes. The macros are constant expressions where their argument is one; STRIP_COUNTERS evaluates it more than
+ * once. They judge nothing: of a capacity that is not allowed, or a length above 134,217,728, they mean nothing. */
+
+/* The numbers that a change writes to `out`. */
+#define STRIP_OUT 5
+
+/* The words of a record of that capacity: 8 to 2,097,152. */
+#define STRIP_WORDS(capacity) ((size_t)(capacity) / 64)
+
+/* The counters of a record of that capacity: 72 for every 32,768 bits begun; above 32,768 as many for every 2,097,152
+ * begun; above 2,097,152 another 72. So 72 up to 32,768, and 299,592 at most. */
+#define STRIP_COUNTERS(capacity)                                                         \
+    (72 * (((size_t)(capacity) + 32767) / 32768 +                                        \
+           ((size_t)(capacity) > 32768 ? ((size_t)(capacity) + 2097151) / 2097152 : 0) + \
+           ((size_t)(capacity) > 2097152 ? 1 : 0)))
+
+/* The bytes of an image before its rows, and of the record of a row of so many bits, 16 to 17,301,520. An image that
+ * starts with image_clear has room for two rows of the lengths l and m exactly where it has at least
+ * IMAGE_HEADER_BYTES + IMAGE_RECORD_BYTES(l) + IMAGE_RECORD_BYTES(m) bytes. */
+#define IMAGE_HEADER_BYTES 16
+#define IMAGE_RECORD_BYTES(length) (16 + 528 * (((size_t)(length) + 4095) / 4096))
+
+/* Value: STRIP_COUNTERS(capacity).
+ * Refusals: 1.
+ *   capacity 512              72
+ *   capacity 134,217,728      299,592
+ *   capacity 0, 513           refused 1 */
+uint64_t strip_counter_count(uint64_t capacity);
+
+/* Value: IMAGE_RECORD_BYTES(length).
+ * Refusals: 4.
+ *   length 0                  16
+ *   length 1 to 4,096         544
+ *   length 134,217,728        17,301,520
+ *   length 134,217,729        refused 4 */
+uint64_t image_record_size(uint64_t length);
+
+/* ---- Changes of a record. They write five numbers to `out`, and none past the fifth:
+ *   out[0]   the number of the refusal, or 0
+ *   out[1]   the first value, 0 where refused
+ *   out[2]   the second value, 0 where refused or where there is none
+ *   out[3]   the capacity of the handle to go on with
+ *   out[4]   its length
+ * Refused, they give back the handle that they got, as it was; strip_create, which got none, gives 0, 0. With out_len
+ * below 5, NULL and 0 among these, a call does nothing at all: not even `out` changes. */
+
+/* lay(capacity). Makes every word and every counter 0, whatever they held, and gives the handle of the empty strip of
+ * that capacity.
+ * Value: the number of counters.
+ * Refusals: 1, 2, 3. The record then stands as it was, and goes on under its last handle. */
+void strip_create(uint64_t capacity, uint64_t *words, size_t words_len, uint32_t *counters, size_t counters_len,
+                  uint64_t *out, size_t out_len);
+
+/* add(v). Appends v; the length grows by 1.
+ * Values: its position, which is the length before; the number of counters changed, 0 for v = 0, else as for
+ * strip_flip.
+ * Refusals: 1, 2, 3, 8, 7.
+ *   v above 1                      refused 8, in a full strip too
+ *   length = capacity              refused 7
+ *   an empty strip                 position 0
+ *   a record that does not fit     position and handle are the same; no bit changes but the one appended, which becomes
+ *                                  v, and no counter but those over it; the number is any up to 45. The promise leaves
+ *                                  open "refused 9" too, with nothing changed; this library does not give it */
+void strip_push(uint64_t capacity, uint64_t length, uint64_t *words, size_t words_len, uint32_t *counters,
+                size_t counters_len, uint64_t v, uint64_t *out, size_t out_len);
+
+/* turn(i). Replaces the bit at position i by its opposite; the length stays.
+ * Values: the new bit; the number of counters changed, each by one, 1 to 45. It is the sum of 15 - c % 8 - c / 8 over
+ *   c = i / 512 % 64
+ *   c = i / 32768 % 64        for a capacity above 32,768
+ *   c = i / 2097152 % 64      for a capacity above 2,097,152
+ * Refusals: 1, 2, 3, 4.
+ *   i = length or above            refused 4, in an empty strip for every i
+ *   a record that does not fit     the new bit is the same; no other bit changes, and no counter but those over it; the
+ *                                  number is any up to 45. The promise leaves open "refused 9" too, with nothing
+ *                                  changed; this library does not give it */
+void strip_flip(uint64_t capacity, uint64_t length, uint64_t *words, size_t words_len, uint32_t *counters,
+                size_t counters_len, uint64_t i, uint64_t *out, size_t out_len);
+
+/* run(a, b, v). Sets the positions a to b - 1 to v; the length stays. Makes every bit at and past the length 0, and
+ * every counter that of the bits.
+ * Value: the ones that the strip then holds.
+ * Refusals: 1, 2, 3, 8, 5, 4.
+ *   v above 1                      refused 8
+ *   a above b                      refused 5, wherever b is
+ *   b = length                     accepted
+ *   b above that                   refused 4, with a = b too
+ *   a = b                          sets no position; the rest is done
+ *   an empty strip                 accepted with a = b = 0 alone; the value is 0
+ *   a record that does not fit     the same, by its bits below the length; it fits afterwards. So words that were
+ *                                  written in another way become a record by a = b = 0 */
+void strip_fill(uint64_t capacity, uint64_t length, uint64_t *words, size_t words_len, uint32_t *counters,
+                size_t counters_len, uint64_t a, uint64_t b, uint64_t v, uint64_t *out, size_t out_len);
+
+/* cut(n). Keeps the first n bits; the length becomes n. Makes every bit at and past it 0, and every counter that of
+ * the bits.
+ * Value: the ones that the strip then holds.
+ * Refusals: 1, 2, 3, 4.
+ *   n = length                     keeps every bit; the rest is done
+ *   n above that                   refused 4
+ *   n = 0                          leaves the empty strip; the value is 0
+ *   a record that does not fit     the same, by its first n bits; it fits afterwards */
+void strip_truncate(uint64_t capacity, uint64_t length, uint64_t *words, size_t words_len, uint32_t *counters,
+                    size_t counters_len, uint64_t n, uint64_t *out, size_t out_len);
+
+/* ---- Readings of a strip. They write nothing. Those that take no counters ignore the bits at and past the length,
+ * and answer alike whether the record fits or not. */
+
+/* look(i).
+ * Value: the bit at position i, 0 or 1.
+ * Refusals: 1, 2, 4.
+ *   i = length or above     refused 4, in an empty strip for every i */
+uint64_t strip_get(uint64_t capacity, uint64_t length, const uint64_t *words, size_t words_len, uint64_t i);
+
+/* count(v, i).
+ * Value: how many of the first i bits equal v, 0 to i. The bit at position i is not counted.
+ * Refusals: 1, 2, 3, 8, 4; 9.
+ *   i = 0                          0, also in an empty strip
+ *   i = length                     all of v in the strip
+ *   i above that                   refused 4
+ *   v above 1                      refused 8
+ *   a record that does not fit     at most i, or refused 9; on one that fits never 9 */
+uint64_t strip_rank(uint64_t capacity, uint64_t length, const uint64_t *words, size_t words_len,
+                    const uint32_t *counters, size_t counters_len, uint64_t v, uint64_t i);
+
+/* find(v, k).
+ * Value: the position that holds v and has k of v before it; k starts at 0, so that k = 0 asks for the first v.
+ * Refusals: 1, 2, 3, 8, 6; 9.
+ *   k below the number of v        a position, below the length
+ *   k at or past it                refused 6, in an empty strip for every k
+ *   v above 1                      refused 8
+ *   a record that does not fit     refused 6 where k is at or past the length; else a position below the length, or
+ *                                  refused 6, or 9, and 9 may come where the bits alone would say 6. On one that fits
+ *                                  never 9 */
+uint64_t strip_select(uint64_t capacity, uint64_t length, const uint64_t *words, size_t words_len,
+                      const uint32_t *counters, size_t counters_len, uint64_t v, uint64_t k);
+
+/* next(v, i).
+ * Value: the smallest position at or past i, below the length, that holds v.
+ * Refusals: 1, 2, 8, 4, 6.
+ *   i = length          refused 6, also in an empty strip
+ *   i above that        refused 4
+ *   v above 1           refused 8
+ *   no v from i on      refused 6 */
+uint64_t strip_successor(uint64_t capacity, uint64_t length, const uint64_t *words, size_t words_len, uint64_t v,
+                         uint64_t i);
+
+/* prior(v, i).
+ * Value: the largest position below i that holds v.
+ * Refusals: 1, 2, 8, 4, 6.
+ *   i = length          the last v of the strip; refused 6 in an empty one
+ *   i above that        refused 4
+ *   i = 0               refused 6
+ *   v above 1           refused 8
+ *   no v before i       refused 6 */
+uint64_t strip_predecessor(uint64_t capacity, uint64_t length, const uint64_t *words, size_t words_len, uint64_t v,
+                           uint64_t i);
+
+/* check.
+ * Value: the ones that the strip holds.
+ * Refusals: 1, 2, 3; 9 exactly where the record does not fit.
+ *   an empty strip whose words and counters are all 0     0 */
+uint64_t strip_verify(uint64_t capacity, uint64_t length, const uint64_t *words, size_t words_len,
+                      const uint32_t *counters, size_t counters_len);
+
+/* ---- Writing an image. */
+
+/* clear. Makes an image with no row: writes its first 16 bytes, whatever the image held, and no other byte.
+ * Value: 16, the bytes written.
+ * Refusals: 13.
+ *   NULL, 0 or any image under 16 or over 2^32 bytes     refused 13 */
+uint64_t image_clear(uint8_t *image, size_t image_len);
+
+/* freeze(label). Appends the strip to the image as a row under the label, the last in chain order. Writes the row's
+ * record of IMAGE_RECORD_BYTES(length) bytes, right after the last record of the chain, or at byte 16 where there is
+ * none, and four bytes of the record before it, or of the header, that lead there; no other byte. The rows that were
+ * there keep their bits, and stay right or wrong as they were; the new row is right. Takes words alone: bits at and
+ * past the length are ignored, and the record need not fit.
+ * Value: where the row's record starts, in units of 16 bytes; 1 for the first row of an image just cleared.
+ * Refusals: 1, 2, 10, 11, 12, 13.
+ *   NULL, 0 or any image with no sound chain         refused 10; an image is cleared first
+ *   an image with a sound chain and a wrong row      accepted
+ *   label 0, 65                                      refused 11
+ *   a label that a row has, with room or without     refused 12
+ *   a record that would end past the last byte       refused 13; accepted where it ends with the image
+ *   an empty strip                                   accepted, as a row of length 0 with a record of 16 bytes */
+uint64_t image_freeze(uint64_t capacity, uint64_t length, const uint64_t *words, size_t words_len, uint8_t *image,
+                      size_t image_len, uint64_t label);
+
+#ifdef __cplusplus
+}
+#endif
+
+#endif
