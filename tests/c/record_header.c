@@ -1,0 +1,136 @@
+/* Each function of strip_record.h on strip A, accepted and refused. A refused change leaves the record's handle. */
+#include "strip_record.h"
+
+#include <inttypes.h>
+#include <stdio.h>
+#include <string.h>
+
+#define CAPACITY 512
+
+/* Strip A, 17 bits. */
+static const char a[] = "01101101010101110";
+
+static uint64_t words[STRIP_WORDS(CAPACITY)];
+static uint32_t counters[STRIP_COUNTERS(CAPACITY)];
+static uint8_t image[IMAGE_HEADER_BYTES + IMAGE_RECORD_BYTES(17)];
+static struct strip_record record;
+
+static int failed = 0;
+
+static void expect(const char *call, struct strip_answer told, uint64_t refusal, uint64_t value, uint64_t second)
+{
+    if (told.refusal == refusal && told.value == value && told.second == second)
+        return;
+    printf("%s: %" PRIu64 ", %" PRIu64 ", %" PRIu64 "\n", call, told.refusal, told.value, told.second);
+    failed = 1;
+}
+
+static void expect_handle(const char *call, uint64_t capacity, uint64_t length)
+{
+    if (record_capacity(&record) == capacity && record_length(&record) == length)
+        return;
+    printf("after %s: capacity %" PRIu64 ", ", call, record_capacity(&record));
+    printf("length %" PRIu64 "\n", record_length(&record));
+    failed = 1;
+}
+
+/* A reading: its value, or its refusal. */
+#define TOLD(call, value) expect(#call, call, 0, value, 0)
+#define REFUSED(call, refusal) expect(#call, call, refusal, 0, 0)
+
+/* A change: its values, with the length afterwards; or its refusal, and the handle as it was. */
+#define CHANGED(call, value, second, length) \
+    (expect(#call, call, 0, value, second), expect_handle(#call, CAPACITY, length))
+#define KEPT(call, refusal)                                   \
+    do {                                                      \
+        struct strip_handle before = record.handle;           \
+        expect(#call, call, refusal, 0, 0);                   \
+        expect_handle(#call, before.capacity, before.length); \
+    } while (0)
+
+int main(void)
+{
+    /* not laid yet: every call is refused by 1 */
+    record = record_over(words, STRIP_WORDS(CAPACITY), counters, STRIP_COUNTERS(CAPACITY));
+    expect_handle("record_over", 0, 0);
+    KEPT(record_push(&record, 1), STRIP_BAD_HANDLE);
+    KEPT(record_fill(&record, 0, 0, 0), STRIP_BAD_HANDLE);
+    REFUSED(record_rank(&record, 1, 0), STRIP_BAD_HANDLE);
+    REFUSED(record_verify(&record), STRIP_BAD_HANDLE);
+    KEPT(record_create(&record, 513), STRIP_BAD_HANDLE);
+
+    /* laid; the empty strip */
+    CHANGED(record_create(&record, CAPACITY), 72, 0, 0);
+    TOLD(record_rank(&record, 0, 0), 0);
+    REFUSED(record_select(&record, 0, 0), STRIP_NOT_FOUND);
+    REFUSED(record_get(&record, 0), STRIP_POSITION);
+
+    /* strip A, bit by bit: a one in the first block moves 15 counters, a zero none */
+    for (uint64_t p = 0; p < strlen(a); p++)
+        CHANGED(record_push(&record, a[p] == '1'), p, a[p] == '1' ? 15 : 0, p + 1);
+    KEPT(record_push(&record, 2), STRIP_BAD_VALUE);
+    KEPT(record_push(&record, (UINT64_C(1) << 32) + 1), STRIP_BAD_VALUE);
+
+    /* readings */
+    TOLD(record_get(&record, 1), 1);
+    REFUSED(record_get(&record, 17), STRIP_POSITION);
+    TOLD(record_rank(&record, 1, 8), 5);
+    TOLD(record_rank(&record, 1, 7), 4);
+    TOLD(record_rank(&record, 1, 17), 10);
+    REFUSED(record_rank(&record, 1, 18), STRIP_POSITION);
+    TOLD(record_select(&record, 1, 7), 13);
+    TOLD(record_select(&record, 1, 9), 15);
+    REFUSED(record_select(&record, 1, 10), STRIP_NOT_FOUND);
+    TOLD(record_successor(&record, 1, 8), 9);
+    REFUSED(record_successor(&record, 1, 16), STRIP_NOT_FOUND);
+    TOLD(record_predecessor(&record, 0, 16), 12);
+    REFUSED(record_predecessor(&record, 0, 18), STRIP_POSITION);
+    TOLD(record_verify(&record), 10);
+
+    /* refused changes */
+    KEPT(record_create(&record, 1024), STRIP_WORD_COUNT);
+    KEPT(record_flip(&record, 17), STRIP_POSITION);
+    KEPT(record_fill(&record, 3, 2, 1), STRIP_SPAN);
+    KEPT(record_fill(&record, 3, 18, 1), STRIP_POSITION);
+    KEPT(record_truncate(&record, 18), STRIP_POSITION);
+    record.counters_len--;
+    KEPT(record_flip(&record, 0), STRIP_COUNTER_COUNT);
+    KEPT(record_create(&record, CAPACITY), STRIP_COUNTER_COUNT);
+    record.counters_len++;
+    TOLD(record_verify(&record), 10);
+
+    /* into an image and back */
+    TOLD(answer_of(image_clear(image, sizeof image)), 16);
+    REFUSED(answer_of(image_row_length(image, sizeof image, 3)), STRIP_LABEL_ABSENT);
+    REFUSED(record_freeze(&record, image, sizeof image - 1, 3), STRIP_NO_ROOM);
+    TOLD(record_freeze(&record, image, sizeof image, 3), 1);
+    REFUSED(record_freeze(&record, image, sizeof image, 3), STRIP_LABEL_PRESENT);
+    REFUSED(record_freeze(&record, image, sizeof image, 65), STRIP_BAD_LABEL);
+    TOLD(answer_of(image_inspect(image, sizeof image)), 1);
+    TOLD(answer_of(image_row_label(image, sizeof image, 0)), 3);
+    TOLD(answer_of(image_row_length(image, sizeof image, 3)), 17);
+    TOLD(answer_of(image_row_rank(image, sizeof image, 3, 1, 8)), 5);
+
+    /* changes */
+    CHANGED(record_flip(&record, 3), 1, 15, 17);
+    CHANGED(record_flip(&record, 6), 1, 15, 17);
+    TOLD(record_rank(&record, 1, 8), 7);
+    TOLD(record_select(&record, 1, 7), 9);
+    CHANGED(record_fill(&record, 2, 9, 0), 6, 0, 17);
+    CHANGED(record_truncate(&record, 12), 3, 0, 12);
+    CHANGED(record_push(&record, 0), 12, 0, 13);
+
+    /* a full strip */
+    while (record_length(&record) < CAPACITY)
+        if (record_push(&record, 1).refusal != 0)
+            return 1;
+    KEPT(record_push(&record, 1), STRIP_FULL);
+    TOLD(record_verify(&record), 502);
+
+    /* a record that does not fit, and one laid anew */
+    counters[40]++;
+    REFUSED(record_verify(&record), STRIP_UNFIT);
+    CHANGED(record_create(&record, CAPACITY), 72, 0, 0);
+    TOLD(record_verify(&record), 0);
+    return failed;
+}
