@@ -121,9 +121,8 @@ int main(void)
     CHANGED(record_push(&record, 0), 12, 0, 13);
 
     /* a full strip */
-    while (record_length(&record) < CAPACITY)
-        if (record_push(&record, 1).refusal != 0)
-            return 1;
+    for (uint64_t p = 13; p < CAPACITY; p++)
+        CHANGED(record_push(&record, 1), p, 15, p + 1);
     KEPT(record_push(&record, 1), STRIP_FULL);
     TOLD(record_verify(&record), 502);
 
