@@ -1,8 +1,8 @@
 /* The proved calls that read an image of frozen rows, and the refusals of all calls.
  *
  * libdisplay.a has these six functions and nothing else. libstrips.a has them too, beside those of strips.h, which
- * includes this header. A program links one of the two libraries. The first words of a call's comment, as row
- * count(v, i), are its name in the scope document.
+ * includes this header. A program links one of the two libraries. A call's comment starts with its name in the scope
+ * document, as row count(v, i), if it has one there.
  *
  * AN IMAGE is a run of bytes that holds up to 64 rows. A ROW is a strip that was frozen: a list of bits, position 0
  * first, of a length from 0 to 134,217,728, under a label from 1 to 64. 1 is a misfire, 0 a good firing. The rows
@@ -18,8 +18,8 @@
  *
  * LENDING. A call is lent the bytes image[0] to image[image_len - 1], at any address, and only reads them. Nobody
  * changes them until it returns. It allocates nothing and keeps nothing. Any bytes may be lent, of any length: what
- * is not a sound image is refused 10, as an image of no bytes, which may be NULL. What no call can see is the
- * caller's to keep: that so many bytes are there.
+ * has no sound chain is refused 10. An image of no bytes may be NULL; it is refused 10 like every other under 16
+ * bytes. What no call can see is the caller's to keep: that so many bytes are there.
  *
  * NUMBERS. Every argument is taken as the 64-bit number that it is, and none is cut: a v of 2^32 + 1 is refused as
  * neither 0 nor 1, a label of 2^32 + 3 as none from 1 to 64, an i of 2^64 - 1 as a position above the length.
@@ -66,8 +66,7 @@ enum strip_refusal {
 /* Whether an answer is a refusal. Evaluates its argument once. */
 #define STRIP_REFUSED(answer) ((uint64_t)(answer) >= UINT64_C(4294967296))
 
-/* Which refusal it is, as an enum strip_refusal; of an accepted answer it means nothing. Evaluates its argument once.
- * */
+/* The refusal, as an enum strip_refusal; of an accepted answer it means nothing. Evaluates its argument once. */
 #define STRIP_REFUSAL(answer) ((enum strip_refusal)(uint32_t)(answer))
 
 /* inspect.
@@ -87,7 +86,7 @@ uint64_t image_inspect(const uint8_t *image, size_t image_len);
  *   i = length                  all of v in the row
  *   i above that                refused 4
  *   v above 1                   refused 8
- *   label 0, 65                 refused 11
+ *   label 0, 65                 refused 11; one that no row has, 14
  *   a wrong row                 at most i, or refused 15; on a right row never 15, whatever the rows beside it are */
 uint64_t image_row_rank(const uint8_t *image, size_t image_len, uint64_t label, uint64_t v, uint64_t i);
 
@@ -98,7 +97,7 @@ uint64_t image_row_rank(const uint8_t *image, size_t image_len, uint64_t label, 
  *   k below the number of v     a position, below the length
  *   k at or past it             refused 6, in an empty row for every k
  *   v above 1                   refused 8
- *   label 0, 65                 refused 11
+ *   label 0, 65                 refused 11; one that no row has, 14
  *   a wrong row                 refused 6 where k is at or past the length; else a position below the length, or
  *                               refused 6, or 15, and 15 may come where the bits alone would say 6. On a right row
  *                               never 15, whatever the rows beside it are */
@@ -108,13 +107,13 @@ uint64_t image_row_select(const uint8_t *image, size_t image_len, uint64_t label
  * Value: the bit at position i of the label's row, 0 or 1.
  * Refusals: 10, 11, 14, 4.
  *   i = length or above     refused 4, in an empty row for every i
- *   label 0, 65             refused 11
+ *   label 0, 65             refused 11; one that no row has, 14
  *   a wrong row             the bit, as on a right one */
 uint64_t image_row_get(const uint8_t *image, size_t image_len, uint64_t label, uint64_t i);
 
 /* Value: the length of the label's row in bits, 0 to 134,217,728.
  * Refusals: 10, 11, 14.
- *   label 0, 65     refused 11
+ *   label 0, 65     refused 11; one that no row has, 14
  *   a wrong row     the length that its record tells */
 uint64_t image_row_length(const uint8_t *image, size_t image_len, uint64_t label);
 

@@ -1,6 +1,6 @@
 /* The proved calls on a strip and on an image of frozen rows, as in libstrips.a. display.h has the refusals, how an
- * answer tells one, and the calls that read an image; this header has the others. The first words of a call's
- * comment, as add(v), are its name in the scope document.
+ * answer tells one, and the calls that read an image; this header has the others. A call's comment starts with its
+ * name in the scope document, as add(v), if it has one there.
  *
  * A STRIP is a list of bits, position 0 first; 1 is a misfire, 0 a good firing. Its capacity is a multiple of 512,
  * from 512 to 134,217,728, and its length is at most its capacity.
@@ -54,8 +54,8 @@ extern "C" {
 /* The words of a record of that capacity: 8 to 2,097,152. */
 #define STRIP_WORDS(capacity) ((size_t)(capacity) / 64)
 
-/* The counters of a record of that capacity: 72 for every 32,768 bits begun; above 32,768 as many for every 2,097,152
- * begun; above 2,097,152 another 72. So 72 up to 32,768, and 299,592 at most. */
+/* The counters of a record of that capacity: 72 for every 32,768 bits begun; above 32,768 another 72 for every
+ * 2,097,152 begun; above 2,097,152 another 72. So 72 up to 32,768, and 299,592 at most. */
 #define STRIP_COUNTERS(capacity)                                                         \
     (72 * (((size_t)(capacity) + 32767) / 32768 +                                        \
            ((size_t)(capacity) > 32768 ? ((size_t)(capacity) + 2097151) / 2097152 : 0) + \
@@ -99,8 +99,8 @@ void strip_create(uint64_t capacity, uint64_t *words, size_t words_len, uint32_t
                   uint64_t *out, size_t out_len);
 
 /* add(v). Appends v; the length grows by 1.
- * Values: its position, which is the length before; the number of counters changed, 0 for v = 0, else as for
- * strip_flip.
+ * Values: its position, which is the length before; the number of counters changed, 0 for v = 0, else as strip_flip
+ * at that position.
  * Refusals: 1, 2, 3, 8, 7.
  *   v above 1                      refused 8, in a full strip too
  *   length = capacity              refused 7
