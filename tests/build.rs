@@ -1,4 +1,4 @@
-//! Links the static library of crate `testing`: in STATICLIB_DIR, or where `rt staticlib testing` writes it.
+//! Links the static libraries of the crates `strips` and `testing`: in STATICLIB_DIR, or where `rt staticlib` writes them.
 use std::env;
 use std::path::PathBuf;
 
@@ -7,10 +7,12 @@ fn main() {
         Some(folder) => PathBuf::from(folder),
         None => PathBuf::from(env::var_os("CARGO_MANIFEST_DIR").unwrap()).join("../target/staticlib"),
     };
-    let archive = folder.join("libtesting.a");
-    assert!(archive.is_file(), "no {}: run `rt staticlib testing` first", archive.display());
     println!("cargo:rerun-if-env-changed=STATICLIB_DIR");
-    println!("cargo:rerun-if-changed={}", archive.display());
     println!("cargo:rustc-link-search=native={}", folder.display());
-    println!("cargo:rustc-link-lib=static=testing");
+    for name in ["strips", "testing"] {
+        let archive = folder.join(format!("lib{name}.a"));
+        assert!(archive.is_file(), "no {}: run `rt staticlib {name}` first", archive.display());
+        println!("cargo:rerun-if-changed={}", archive.display());
+        println!("cargo:rustc-link-lib=static={name}");
+    }
 }

@@ -1,11 +1,10 @@
-//! Calls drawn at random, their arguments around what they meet.
-use crate::borders::{self, BAD_CAPACITIES, BAD_VALUES, FAR, LARGEST, UNITS};
+//! Calls and queries drawn at random, their arguments around what they meet.
+use crate::borders::{BAD_CAPACITIES, BAD_VALUES, FAR, LARGEST, UNITS, WIDE};
 use crate::call::{Call, Opcode, CALLS};
 use crate::model::number_of;
 use crate::paper::Frozen;
+use crate::query::Query;
 use crate::random::Random;
-
-const WIDE: u64 = borders::WIDE as u64;
 
 /// What a call meets: the handle's capacity, the strip, and the rows.
 pub struct Scene<'a> {
@@ -18,17 +17,13 @@ fn one_of<T: Copy>(random: &mut Random, list: &[T]) -> T {
     list[random.below(list.len())]
 }
 
-fn below(random: &mut Random, n: u64) -> u64 {
-    random.below(n as usize) as u64
-}
-
 fn far(random: &mut Random) -> u64 {
-    one_of(random, &FAR) as u64
+    one_of(random, &FAR)
 }
 
 /// A number at most one off another.
 fn near(random: &mut Random, number: u64) -> u64 {
-    number.wrapping_add(below(random, 3)).wrapping_sub(1)
+    number.wrapping_add(random.number_below(3)).wrapping_sub(1)
 }
 
 /// 0 or 1, or seldom neither.
@@ -36,7 +31,7 @@ pub fn value(random: &mut Random) -> u64 {
     if random.below(16) == 0 {
         one_of(random, &BAD_VALUES)
     } else {
-        below(random, 2)
+        random.number_below(2)
     }
 }
 
@@ -44,16 +39,16 @@ pub fn value(random: &mut Random) -> u64 {
 pub fn position(random: &mut Random, capacity: u64, length: u64) -> u64 {
     match random.below(16) {
         0 => far(random),
-        1 => WIDE + below(random, length + 1),
+        1 => WIDE + random.number_below(length + 1),
         2 => near(random, capacity),
         3 | 4 => near(random, length),
         5..=7 => {
-            let unit = one_of(random, &UNITS) as u64;
-            let edge = unit * below(random, length / unit + 2);
+            let unit = one_of(random, &UNITS);
+            let edge = unit * random.number_below(length / unit + 2);
             near(random, edge)
         }
-        8 => below(random, 3),
-        _ => below(random, length + 1),
+        8 => random.number_below(3),
+        _ => random.number_below(length + 1),
     }
 }
 
@@ -62,11 +57,11 @@ fn index(random: &mut Random, bits: &[bool], v: u64) -> u64 {
     let number = number_of(bits, v == 1);
     match random.below(16) {
         0 => far(random),
-        1 => WIDE + below(random, number + 1),
+        1 => WIDE + random.number_below(number + 1),
         2..=4 => near(random, number),
         5 => near(random, bits.len() as u64),
-        6 => below(random, 3),
-        _ => below(random, number + 1),
+        6 => random.number_below(3),
+        _ => random.number_below(number + 1),
     }
 }
 
@@ -80,7 +75,7 @@ fn label(random: &mut Random, rows: &[Frozen], share: usize) -> u64 {
         2 => one_of(random, &[1, 64]),
         3 => far(random),
         _ if random.below(100) < share => held,
-        _ => 1 + below(random, 64),
+        _ => 1 + random.number_below(64),
     }
 }
 
@@ -93,9 +88,9 @@ fn capacity(random: &mut Random, own: u64) -> u64 {
         7..=9 => own.wrapping_sub(512),
         10..=12 => own.wrapping_add(WIDE),
         13..=15 => far(random),
-        16 | 17 => one_of(random, &BAD_CAPACITIES) as u64,
-        18 => LARGEST as u64,
-        _ => 512 * below(random, 600),
+        16 | 17 => one_of(random, &BAD_CAPACITIES),
+        18 => LARGEST,
+        _ => 512 * random.number_below(600),
     }
 }
 
@@ -107,7 +102,7 @@ fn span(random: &mut Random, scene: &Scene) -> (u64, u64) {
         0 => (a, position(random, scene.capacity, length)),
         1 => (a, near(random, length)),
         2 => (a, near(random, a)),
-        _ => (a, a.saturating_add(below(random, 150))),
+        _ => (a, a.saturating_add(random.number_below(150))),
     }
 }
 
@@ -117,7 +112,7 @@ fn kept(random: &mut Random, scene: &Scene) -> u64 {
     match random.below(8) {
         0 => position(random, scene.capacity, length),
         1 => near(random, length),
-        _ => length.saturating_sub(below(random, 40)),
+        _ => length.saturating_sub(random.number_below(40)),
     }
 }
 
@@ -153,6 +148,25 @@ fn arguments(random: &mut Random, opcode: Opcode, scene: &Scene) -> [u64; 3] {
             }
         }
         Opcode::Verify | Opcode::Clear | Opcode::Inspect => [any; 3],
+    }
+}
+
+/// A query of the same kind, of a drawn argument.
+pub fn query(random: &mut Random, query: Query, scene: &Scene) -> Query {
+    let rows = scene.rows.len() as u64;
+    match query {
+        Query::CountersNeeded(_) => Query::CountersNeeded(capacity(random, scene.capacity)),
+        Query::RecordSize(_) => Query::RecordSize(match random.below(4) {
+            0 => near(random, LARGEST),
+            _ => position(random, scene.capacity, LARGEST),
+        }),
+        Query::RowLength(_) => Query::RowLength(label(random, scene.rows, 80)),
+        Query::RowLabel(_) => Query::RowLabel(match random.below(8) {
+            0 => far(random),
+            1 => WIDE + random.number_below(rows + 1),
+            2 => near(random, rows),
+            _ => random.number_below(rows + 1),
+        }),
     }
 }
 

@@ -1,126 +1,136 @@
-//! The exported calls; include/testing.h says what each answers.
+//! The exported functions; include/strips.h and tests/common/testing.h say what each answers.
 
 extern "C" {
-    pub fn strip_get(capacity: usize, length: usize, words: *const u64, count: usize, i: usize) -> u64;
-    pub fn strip_successor(capacity: usize, length: usize, words: *const u64, count: usize, v: u64, i: usize) -> u64;
-    pub fn strip_predecessor(capacity: usize, length: usize, words: *const u64, count: usize, v: u64, i: usize) -> u64;
-    pub fn strip_select_in_word(x: u64, k: usize) -> usize;
+    // of libdisplay.a, and of libstrips.a too
+    pub fn image_inspect(image: *const u8, image_len: usize) -> u64;
+    pub fn image_row_rank(image: *const u8, image_len: usize, label: u64, v: u64, i: u64) -> u64;
+    pub fn image_row_select(image: *const u8, image_len: usize, label: u64, v: u64, k: u64) -> u64;
+    pub fn image_row_get(image: *const u8, image_len: usize, label: u64, i: u64) -> u64;
+    pub fn image_row_length(image: *const u8, image_len: usize, label: u64) -> u64;
+    pub fn image_row_label(image: *const u8, image_len: usize, k: u64) -> u64;
+
+    // of libstrips.a alone
+    pub fn strip_counter_count(capacity: u64) -> u64;
     pub fn strip_create(
-        capacity: usize,
+        capacity: u64,
         words: *mut u64,
-        word_count: usize,
+        words_len: usize,
         counters: *mut u32,
-        counter_count: usize,
+        counters_len: usize,
         out: *mut u64,
-        room: usize,
+        out_len: usize,
     );
     pub fn strip_push(
-        capacity: usize,
-        length: usize,
+        capacity: u64,
+        length: u64,
         words: *mut u64,
-        word_count: usize,
+        words_len: usize,
         counters: *mut u32,
-        counter_count: usize,
+        counters_len: usize,
         v: u64,
         out: *mut u64,
-        room: usize,
+        out_len: usize,
     );
     pub fn strip_flip(
-        capacity: usize,
-        length: usize,
+        capacity: u64,
+        length: u64,
         words: *mut u64,
-        word_count: usize,
+        words_len: usize,
         counters: *mut u32,
-        counter_count: usize,
-        i: usize,
+        counters_len: usize,
+        i: u64,
         out: *mut u64,
-        room: usize,
+        out_len: usize,
     );
     pub fn strip_fill(
-        capacity: usize,
-        length: usize,
+        capacity: u64,
+        length: u64,
         words: *mut u64,
-        word_count: usize,
+        words_len: usize,
         counters: *mut u32,
-        counter_count: usize,
-        a: usize,
-        b: usize,
+        counters_len: usize,
+        a: u64,
+        b: u64,
         v: u64,
         out: *mut u64,
-        room: usize,
+        out_len: usize,
     );
     pub fn strip_truncate(
-        capacity: usize,
-        length: usize,
+        capacity: u64,
+        length: u64,
         words: *mut u64,
-        word_count: usize,
+        words_len: usize,
         counters: *mut u32,
-        counter_count: usize,
-        n: usize,
+        counters_len: usize,
+        n: u64,
         out: *mut u64,
-        room: usize,
+        out_len: usize,
     );
+    pub fn strip_get(capacity: u64, length: u64, words: *const u64, words_len: usize, i: u64) -> u64;
     pub fn strip_rank(
-        capacity: usize,
-        length: usize,
+        capacity: u64,
+        length: u64,
         words: *const u64,
-        word_count: usize,
+        words_len: usize,
         counters: *const u32,
-        counter_count: usize,
+        counters_len: usize,
         v: u64,
-        i: usize,
+        i: u64,
     ) -> u64;
     pub fn strip_select(
-        capacity: usize,
-        length: usize,
+        capacity: u64,
+        length: u64,
         words: *const u64,
-        word_count: usize,
+        words_len: usize,
         counters: *const u32,
-        counter_count: usize,
+        counters_len: usize,
         v: u64,
-        k: usize,
+        k: u64,
     ) -> u64;
+    pub fn strip_successor(capacity: u64, length: u64, words: *const u64, words_len: usize, v: u64, i: u64) -> u64;
+    pub fn strip_predecessor(capacity: u64, length: u64, words: *const u64, words_len: usize, v: u64, i: u64) -> u64;
     pub fn strip_verify(
-        capacity: usize,
-        length: usize,
+        capacity: u64,
+        length: u64,
         words: *const u64,
-        word_count: usize,
+        words_len: usize,
         counters: *const u32,
-        counter_count: usize,
+        counters_len: usize,
     ) -> u64;
-    pub fn image_clear(image: *mut u8, size: usize) -> u64;
+    pub fn image_record_size(length: u64) -> u64;
+    pub fn image_clear(image: *mut u8, image_len: usize) -> u64;
     pub fn image_freeze(
-        capacity: usize,
-        length: usize,
+        capacity: u64,
+        length: u64,
         words: *const u64,
-        word_count: usize,
+        words_len: usize,
         image: *mut u8,
-        size: usize,
-        label: usize,
+        image_len: usize,
+        label: u64,
     ) -> u64;
-    pub fn image_open(image: *const u8, size: usize, label: usize) -> u64;
-    pub fn image_row_get(image: *const u8, size: usize, label: usize, i: usize) -> u64;
-    pub fn image_row_rank(image: *const u8, size: usize, label: usize, v: u64, i: usize) -> u64;
-    pub fn image_row_select(image: *const u8, size: usize, label: usize, v: u64, k: usize) -> u64;
-    pub fn image_part_get(part: *const u8, size: usize, n: usize, i: usize) -> u64;
-    pub fn image_part_rank(part: *const u8, size: usize, n: usize, v: u64, i: usize) -> u64;
-    pub fn image_part_select(part: *const u8, size: usize, n: usize, v: u64, k: usize) -> u64;
-    pub fn image_opened_get(image: *const u8, size: usize, label: usize, i: usize) -> u64;
-    pub fn image_opened_rank(image: *const u8, size: usize, label: usize, v: u64, i: usize) -> u64;
-    pub fn image_opened_select(image: *const u8, size: usize, label: usize, v: u64, k: usize) -> u64;
+
+    // of libtesting.a
+    pub fn strip_select_in_word(x: u64, k: u64) -> u64;
+    pub fn image_open(image: *const u8, image_len: usize, label: u64) -> u64;
+    pub fn image_part_get(part: *const u8, part_len: usize, length: u64, i: u64) -> u64;
+    pub fn image_part_rank(part: *const u8, part_len: usize, length: u64, v: u64, i: u64) -> u64;
+    pub fn image_part_select(part: *const u8, part_len: usize, length: u64, v: u64, k: u64) -> u64;
+    pub fn image_opened_get(image: *const u8, image_len: usize, label: u64, i: u64) -> u64;
+    pub fn image_opened_rank(image: *const u8, image_len: usize, label: u64, v: u64, i: u64) -> u64;
+    pub fn image_opened_select(image: *const u8, image_len: usize, label: u64, v: u64, k: u64) -> u64;
     pub fn strip_execute(
         script: *const u64,
         script_len: usize,
         capacity: u64,
         clear_first: u64,
         words: *mut u64,
-        word_count: usize,
+        words_len: usize,
         counters: *mut u32,
-        counter_count: usize,
+        counters_len: usize,
         image: *mut u8,
-        size: usize,
+        image_len: usize,
         answers: *mut u64,
-        room: usize,
+        answers_len: usize,
     ) -> u64;
     pub fn strip_step(
         op: u64,
@@ -130,12 +140,12 @@ extern "C" {
         capacity: u64,
         length: u64,
         words: *mut u64,
-        word_count: usize,
+        words_len: usize,
         counters: *mut u32,
-        counter_count: usize,
+        counters_len: usize,
         image: *mut u8,
-        size: usize,
+        image_len: usize,
         out: *mut u64,
-        room: usize,
+        out_len: usize,
     );
 }

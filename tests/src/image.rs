@@ -1,11 +1,12 @@
 //! Bytes lent to the proved calls on an image. Each call is given a buffer of its own, between guards, and each reading is
 //! asserted to leave it as it was.
 use crate::ffi::{
-    image_clear, image_freeze, image_open, image_opened_get, image_opened_rank, image_opened_select, image_part_get,
-    image_part_rank, image_part_select, image_row_get, image_row_rank, image_row_select,
+    image_clear, image_freeze, image_inspect, image_open, image_opened_get, image_opened_rank, image_opened_select,
+    image_part_get, image_part_rank, image_part_select, image_record_size, image_row_get, image_row_label,
+    image_row_length, image_row_rank, image_row_select,
 };
 use crate::guarded::Guarded;
-use crate::refusal::{answer, Answer};
+use crate::refusal::{answer, Answer, Refusal};
 use crate::{Handle, Lent};
 
 /// Runs a call on bytes between two guards.
@@ -36,7 +37,7 @@ pub fn clear(image: &mut [u8]) -> Answer {
 }
 
 /// freeze(label)
-pub fn freeze(h: Handle, words: &[u64], image: &mut [u8], label: usize) -> Answer {
+pub fn freeze(h: Handle, words: &[u64], image: &mut [u8], label: u64) -> Answer {
     let mut lent = Lent::new(words);
     let (words, count) = lent.lend();
     let told =
@@ -45,52 +46,84 @@ pub fn freeze(h: Handle, words: &[u64], image: &mut [u8], label: usize) -> Answe
     told
 }
 
+/// The bytes of a row's record.
+pub fn record_size(length: u64) -> Answer {
+    // SAFETY: the call takes a number only.
+    answer(unsafe { image_record_size(length) })
+}
+
+/// inspect
+pub fn inspect(image: &[u8]) -> Answer {
+    reading(image, |bytes, size| unsafe { image_inspect(bytes, size) })
+}
+
+/// The length of a label's row.
+pub fn row_length(image: &[u8], label: u64) -> Answer {
+    reading(image, |bytes, size| unsafe { image_row_length(bytes, size, label) })
+}
+
+/// The label of the k-th row.
+pub fn row_label(image: &[u8], k: u64) -> Answer {
+    reading(image, |bytes, size| unsafe { image_row_label(bytes, size, k) })
+}
+
+/// The labels and lengths of the rows, asked for in order till one is refused: those, and that refusal.
+pub fn rows(image: &[u8]) -> (Vec<(u64, u64)>, Refusal) {
+    let mut rows = Vec::new();
+    loop {
+        match row_label(image, rows.len() as u64) {
+            Ok(label) => rows.push((label, row_length(image, label).unwrap())),
+            Err(refusal) => return (rows, refusal),
+        }
+    }
+}
+
 /// The place of a label's record.
-pub fn open(image: &[u8], label: usize) -> Answer {
+pub fn open(image: &[u8], label: u64) -> Answer {
     reading(image, |bytes, size| unsafe { image_open(bytes, size, label) })
 }
 
 /// look(i) on a label's row.
-pub fn row_get(image: &[u8], label: usize, i: usize) -> Answer {
+pub fn row_get(image: &[u8], label: u64, i: u64) -> Answer {
     reading(image, |bytes, size| unsafe { image_row_get(bytes, size, label, i) })
 }
 
 /// count(v, i) on a label's row.
-pub fn row_rank(image: &[u8], label: usize, v: u64, i: usize) -> Answer {
+pub fn row_rank(image: &[u8], label: u64, v: u64, i: u64) -> Answer {
     reading(image, |bytes, size| unsafe { image_row_rank(bytes, size, label, v, i) })
 }
 
 /// find(v, k) on a label's row.
-pub fn row_select(image: &[u8], label: usize, v: u64, k: usize) -> Answer {
+pub fn row_select(image: &[u8], label: u64, v: u64, k: u64) -> Answer {
     reading(image, |bytes, size| unsafe { image_row_select(bytes, size, label, v, k) })
 }
 
 /// look(i) on a row's part and a held length.
-pub fn get(part: &[u8], n: usize, i: usize) -> Answer {
+pub fn get(part: &[u8], n: u64, i: u64) -> Answer {
     reading(part, |bytes, size| unsafe { image_part_get(bytes, size, n, i) })
 }
 
 /// count(v, i) on a row's part and a held length.
-pub fn rank(part: &[u8], n: usize, v: u64, i: usize) -> Answer {
+pub fn rank(part: &[u8], n: u64, v: u64, i: u64) -> Answer {
     reading(part, |bytes, size| unsafe { image_part_rank(bytes, size, n, v, i) })
 }
 
 /// find(v, k) on a row's part and a held length.
-pub fn select(part: &[u8], n: usize, v: u64, k: usize) -> Answer {
+pub fn select(part: &[u8], n: u64, v: u64, k: u64) -> Answer {
     reading(part, |bytes, size| unsafe { image_part_select(bytes, size, n, v, k) })
 }
 
 /// Opening a row, then look(i) on it.
-pub fn opened_get(image: &[u8], label: usize, i: usize) -> Answer {
+pub fn opened_get(image: &[u8], label: u64, i: u64) -> Answer {
     reading(image, |bytes, size| unsafe { image_opened_get(bytes, size, label, i) })
 }
 
 /// Opening a row, then count(v, i) on it.
-pub fn opened_rank(image: &[u8], label: usize, v: u64, i: usize) -> Answer {
+pub fn opened_rank(image: &[u8], label: u64, v: u64, i: u64) -> Answer {
     reading(image, |bytes, size| unsafe { image_opened_rank(bytes, size, label, v, i) })
 }
 
 /// Opening a row, then find(v, k) on it.
-pub fn opened_select(image: &[u8], label: usize, v: u64, k: usize) -> Answer {
+pub fn opened_select(image: &[u8], label: u64, v: u64, k: u64) -> Answer {
     reading(image, |bytes, size| unsafe { image_opened_select(bytes, size, label, v, k) })
 }

@@ -1,6 +1,6 @@
 //! The proved calls, to be compared with a plain model of them. The calls: those on words here, those on a record in
-//! `record`, those on an image in `image`, and scripts of all of them in `script`. The model: strips and rows in `model`,
-//! the image's bytes in `layout`, the paper machine in `paper`.
+//! `record`, those on an image in `image`, the queries in `query`, and scripts of all calls in `script`. The model: strips and
+//! rows in `model`, the image's bytes in `layout`, the paper machine in `paper`.
 pub mod borders;
 pub mod call;
 pub mod cases;
@@ -11,6 +11,7 @@ pub mod image;
 pub mod layout;
 pub mod model;
 pub mod paper;
+pub mod query;
 pub mod random;
 pub mod record;
 pub mod refusal;
@@ -23,8 +24,8 @@ use refusal::{answer, Answer};
 /// A handle, passed by value.
 #[derive(Clone, Copy, Debug, PartialEq, Eq)]
 pub struct Handle {
-    pub capacity: usize,
-    pub length: usize,
+    pub capacity: u64,
+    pub length: u64,
 }
 
 /// Words lent to the calls, between two guards. Each call asserts that it left all of them as they were.
@@ -47,7 +48,7 @@ impl Lent {
     }
 
     /// look(i)
-    pub fn get(&mut self, h: Handle, i: usize) -> Answer {
+    pub fn get(&mut self, h: Handle, i: u64) -> Answer {
         let (words, count) = self.lend();
         // SAFETY: `words` points to `count` words, which live through the call.
         let told = unsafe { strip_get(h.capacity, h.length, words, count, i) };
@@ -56,7 +57,7 @@ impl Lent {
     }
 
     /// next(v, i)
-    pub fn successor(&mut self, h: Handle, v: u64, i: usize) -> Answer {
+    pub fn successor(&mut self, h: Handle, v: u64, i: u64) -> Answer {
         let (words, count) = self.lend();
         // SAFETY: as in `get`.
         let told = unsafe { strip_successor(h.capacity, h.length, words, count, v, i) };
@@ -65,7 +66,7 @@ impl Lent {
     }
 
     /// prior(v, i)
-    pub fn predecessor(&mut self, h: Handle, v: u64, i: usize) -> Answer {
+    pub fn predecessor(&mut self, h: Handle, v: u64, i: u64) -> Answer {
         let (words, count) = self.lend();
         // SAFETY: as in `get`.
         let told = unsafe { strip_predecessor(h.capacity, h.length, words, count, v, i) };
@@ -85,7 +86,7 @@ impl Lent {
 }
 
 /// The position of the k-th one of a word, or 64.
-pub fn select_in_word(x: u64, k: usize) -> usize {
+pub fn select_in_word(x: u64, k: u64) -> u64 {
     // SAFETY: the call takes numbers only.
     unsafe { strip_select_in_word(x, k) }
 }

@@ -36,13 +36,22 @@ pub fn bits_of(words: &[u64]) -> Vec<bool> {
     bits
 }
 
+/// The number of words of a capacity.
+pub fn word_count(capacity: u64) -> usize {
+    capacity as usize / 64
+}
+
 // ---- the refusals of all strip calls
+
+/// Whether a capacity is a multiple of 512 from 512 to the largest.
+fn allowed(capacity: u64) -> bool {
+    capacity.is_multiple_of(512) && (512..=LARGEST).contains(&capacity)
+}
 
 /// 1, 2, and 3 where counters are taken.
 pub fn check(h: Handle, words: usize, counters: Option<usize>) -> Result<(), Refusal> {
-    let allowed = h.capacity.is_multiple_of(512) && (512..=LARGEST).contains(&h.capacity);
-    BadHandle.when(!allowed || h.length > h.capacity)?;
-    WordCount.when(words != h.capacity / 64)?;
+    BadHandle.when(!allowed(h.capacity) || h.length > h.capacity)?;
+    WordCount.when(words != word_count(h.capacity))?;
     CounterCount.when(counters.is_some_and(|number| number != counter_count(h.capacity)))
 }
 
@@ -52,6 +61,11 @@ pub fn check(h: Handle, words: usize, counters: Option<usize>) -> Result<(), Ref
 fn check_value(v: u64) -> Result<bool, Refusal> {
     BadValue.when(v > 1)?;
     Ok(v == 1)
+}
+
+/// The length of a list of bits.
+pub fn length(bits: &[bool]) -> u64 {
+    bits.len() as u64
 }
 
 /// A position, or 6.
@@ -65,26 +79,26 @@ pub fn number_of(bits: &[bool], v: bool) -> u64 {
 }
 
 /// look(i): 4.
-pub fn get(bits: &[bool], i: usize) -> Answer {
-    Position.when(i >= bits.len())?;
-    Ok(u64::from(bits[i]))
+pub fn get(bits: &[bool], i: u64) -> Answer {
+    Position.when(i >= length(bits))?;
+    Ok(u64::from(bits[i as usize]))
 }
 
 /// count(v, i): 8, 4; how many of the first i bits equal v.
-pub fn rank(bits: &[bool], v: u64, i: usize) -> Answer {
+pub fn rank(bits: &[bool], v: u64, i: u64) -> Answer {
     let v = check_value(v)?;
-    Position.when(i > bits.len())?;
-    Ok(number_of(&bits[..i], v))
+    Position.when(i > length(bits))?;
+    Ok(number_of(&bits[..i as usize], v))
 }
 
 /// find(v, k): 8, 6; the position that holds v and has k of v before it. Parts that have too few of v are passed over.
-pub fn select(bits: &[bool], v: u64, k: usize) -> Answer {
+pub fn select(bits: &[bool], v: u64, k: u64) -> Answer {
     let v = check_value(v)?;
     let (mut start, mut rest) = (0, k);
     for part in bits.chunks(1000) {
-        let places = number_of(part, v) as usize;
+        let places = number_of(part, v);
         if rest < places {
-            return found((0..part.len()).filter(|p| part[*p] == v).nth(rest).map(|p| start + p));
+            return found((0..part.len()).filter(|p| part[*p] == v).nth(rest as usize).map(|p| start + p));
         }
         rest -= places;
         start += part.len();
@@ -93,26 +107,25 @@ pub fn select(bits: &[bool], v: u64, k: usize) -> Answer {
 }
 
 /// next(v, i): 8, 4, 6; the smallest position at or past i that holds v.
-pub fn successor(bits: &[bool], v: u64, i: usize) -> Answer {
+pub fn successor(bits: &[bool], v: u64, i: u64) -> Answer {
     let v = check_value(v)?;
-    Position.when(i > bits.len())?;
-    found((i..bits.len()).find(|p| bits[*p] == v))
+    Position.when(i > length(bits))?;
+    found((i as usize..bits.len()).find(|p| bits[*p] == v))
 }
 
 /// prior(v, i): 8, 4, 6; the largest position below i that holds v.
-pub fn predecessor(bits: &[bool], v: u64, i: usize) -> Answer {
+pub fn predecessor(bits: &[bool], v: u64, i: u64) -> Answer {
     let v = check_value(v)?;
-    Position.when(i > bits.len())?;
-    found((0..i).rev().find(|p| bits[*p] == v))
+    Position.when(i > length(bits))?;
+    found((0..i as usize).rev().find(|p| bits[*p] == v))
 }
 
 /// A row reading on its row, after the refusals 10, 11 and 14.
 pub fn on_row(bits: &[bool], call: Call) -> Values {
-    let (y, z) = (call.y, call.z as usize);
     let told = match call.opcode() {
-        Opcode::RowRank => rank(bits, y, z),
-        Opcode::RowSelect => select(bits, y, z),
-        Opcode::RowGet => get(bits, y as usize),
+        Opcode::RowRank => rank(bits, call.y, call.z),
+        Opcode::RowSelect => select(bits, call.y, call.z),
+        Opcode::RowGet => get(bits, call.y),
         _ => unreachable!("{call:?} is not on a row"),
     };
     told.map(|value| (value, 0))
@@ -128,13 +141,13 @@ struct Level {
 }
 
 /// The number of levels over a capacity.
-fn height(capacity: usize) -> u32 {
-    (1..=3).find(|h| 64usize.pow(*h) >= capacity / 512).unwrap()
+fn height(capacity: u64) -> u32 {
+    (1..=3).find(|h| 64u64.pow(*h) >= capacity / 512).unwrap()
 }
 
 /// The levels over a capacity, root first.
-fn levels(capacity: usize) -> Vec<Level> {
-    let blocks = capacity / 512;
+fn levels(capacity: u64) -> Vec<Level> {
+    let blocks = capacity as usize / 512;
     let mut start = 0;
     let mut list = Vec::new();
     for t in (1..=height(capacity)).rev() {
@@ -146,8 +159,14 @@ fn levels(capacity: usize) -> Vec<Level> {
 }
 
 /// The number of counters: the node total times 72.
-pub fn counter_count(capacity: usize) -> usize {
+pub fn counter_count(capacity: u64) -> usize {
     levels(capacity).iter().map(|level| 72 * level.nodes).sum()
+}
+
+/// The number of counters that a capacity needs: 1.
+pub fn counters_needed(capacity: u64) -> Answer {
+    BadHandle.when(!allowed(capacity))?;
+    Ok(counter_count(capacity) as u64)
 }
 
 /// The bits of a child at level t: a block, or a node of the level below.
@@ -166,7 +185,7 @@ fn children(i: usize) -> Range<usize> {
 }
 
 /// Every counter as defined for these bits; bits and children that are not there count 0.
-pub fn counters_of(capacity: usize, bits: &[bool]) -> Vec<u32> {
+pub fn counters_of(capacity: u64, bits: &[bool]) -> Vec<u32> {
     let mut counters = Vec::new();
     for level in levels(capacity) {
         let ones: Vec<u32> =
@@ -181,14 +200,14 @@ pub fn counters_of(capacity: usize, bits: &[bool]) -> Vec<u32> {
 }
 
 /// Where the counters stand that count stroke p: it lies in one of the children whose ones they give.
-pub fn counting(capacity: usize, p: usize) -> Vec<usize> {
+pub fn counting(capacity: u64, p: u64) -> Vec<usize> {
     let mut list = Vec::new();
     for level in levels(capacity) {
         let size = child_bits(level.t);
         for node in 0..level.nodes {
             for i in 0..72 {
                 let given = children(i);
-                if (size * (64 * node + given.start)..size * (64 * node + given.end)).contains(&p) {
+                if (size * (64 * node + given.start)..size * (64 * node + given.end)).contains(&(p as usize)) {
                     list.push(level.start + 72 * node + i);
                 }
             }
@@ -198,9 +217,9 @@ pub fn counting(capacity: usize, p: usize) -> Vec<usize> {
 }
 
 /// How many counters turning stroke p changes: 15 - (c mod 8) - (c div 8) at its child slot c, added over the levels.
-fn changes(capacity: usize, p: usize) -> u64 {
-    let slots = (1..=height(capacity)).map(|t| p / child_bits(t) % 64);
-    slots.map(|c| 15 - c % 8 - c / 8).sum::<usize>() as u64
+fn changes(capacity: u64, p: u64) -> u64 {
+    let slots = (1..=height(capacity)).map(|t| p / child_bits(t) as u64 % 64);
+    slots.map(|c| 15 - c % 8 - c / 8).sum()
 }
 
 // ---- the strip
@@ -208,17 +227,17 @@ fn changes(capacity: usize, p: usize) -> u64 {
 /// A strip, position 0 first, under a capacity: what a fitting record holds.
 #[derive(Clone)]
 pub struct Strip {
-    pub capacity: usize,
+    pub capacity: u64,
     pub bits: Vec<bool>,
 }
 
 impl Strip {
-    pub fn new(capacity: usize, bits: Vec<bool>) -> Strip {
+    pub fn new(capacity: u64, bits: Vec<bool>) -> Strip {
         Strip { capacity, bits }
     }
 
     pub fn handle(&self) -> Handle {
-        Handle { capacity: self.capacity, length: self.bits.len() }
+        Handle { capacity: self.capacity, length: length(&self.bits) }
     }
 
     pub fn ones(&self) -> u64 {
@@ -228,7 +247,7 @@ impl Strip {
     /// The words laid afresh: the bits at their positions, zeros past the length.
     pub fn words(&self) -> Vec<u64> {
         let mut words = words_of(&self.bits);
-        words.resize(self.capacity / 64, 0);
+        words.resize(word_count(self.capacity), 0);
         words
     }
 
@@ -239,36 +258,36 @@ impl Strip {
 
     /// A call from lay to check, with so many words and counters lent.
     pub fn step(&mut self, lent: (usize, usize), call: Call) -> Values {
-        let (opcode, x) = (call.opcode(), call.x as usize);
+        let opcode = call.opcode();
         if opcode == Opcode::Create {
-            return self.create(lent, x);
+            return self.create(lent, call.x);
         }
         check(self.handle(), lent.0, opcode.takes_counters().then_some(lent.1))?;
         match opcode {
             Opcode::Push => self.push(call.x),
-            Opcode::Flip => self.flip(x),
-            Opcode::Fill => self.fill(x, call.y as usize, call.z),
-            Opcode::Truncate => self.truncate(x),
+            Opcode::Flip => self.flip(call.x),
+            Opcode::Fill => self.fill(call.x, call.y, call.z),
+            Opcode::Truncate => self.truncate(call.x),
             _ => self.read(call).map(|value| (value, 0)),
         }
     }
 
     /// A reading, after 1 to 3.
     fn read(&self, call: Call) -> Answer {
-        let (bits, y) = (&self.bits, call.y as usize);
+        let (bits, x, y) = (&self.bits, call.x, call.y);
         match call.opcode() {
-            Opcode::Get => get(bits, call.x as usize),
-            Opcode::Rank => rank(bits, call.x, y),
-            Opcode::Select => select(bits, call.x, y),
-            Opcode::Successor => successor(bits, call.x, y),
-            Opcode::Predecessor => predecessor(bits, call.x, y),
+            Opcode::Get => get(bits, x),
+            Opcode::Rank => rank(bits, x, y),
+            Opcode::Select => select(bits, x, y),
+            Opcode::Successor => successor(bits, x, y),
+            Opcode::Predecessor => predecessor(bits, x, y),
             Opcode::Verify => Ok(self.ones()),
             _ => unreachable!("{call:?} is not on a strip"),
         }
     }
 
     /// lay(capacity): 1, 2, 3; the strip is empty.
-    fn create(&mut self, lent: (usize, usize), capacity: usize) -> Values {
+    fn create(&mut self, lent: (usize, usize), capacity: u64) -> Values {
         check(Handle { capacity, length: 0 }, lent.0, Some(lent.1))?;
         *self = Strip::new(capacity, Vec::new());
         Ok((counter_count(capacity) as u64, 0))
@@ -277,32 +296,33 @@ impl Strip {
     /// add(v): 8, 7; appends v.
     fn push(&mut self, v: u64) -> Values {
         let bit = check_value(v)?;
-        let p = self.bits.len();
+        let p = length(&self.bits);
         Full.when(p == self.capacity)?;
         self.bits.push(bit);
-        Ok((p as u64, if bit { changes(self.capacity, p) } else { 0 }))
+        Ok((p, if bit { changes(self.capacity, p) } else { 0 }))
     }
 
     /// turn(i): 4; replaces one bit by its opposite.
-    fn flip(&mut self, i: usize) -> Values {
-        Position.when(i >= self.bits.len())?;
-        self.bits[i] = !self.bits[i];
-        Ok((u64::from(self.bits[i]), changes(self.capacity, i)))
+    fn flip(&mut self, i: u64) -> Values {
+        Position.when(i >= length(&self.bits))?;
+        let bit = &mut self.bits[i as usize];
+        *bit = !*bit;
+        Ok((u64::from(*bit), changes(self.capacity, i)))
     }
 
     /// run(a, b, v): 8, 5, 4; sets the positions a to b - 1 to v.
-    fn fill(&mut self, a: usize, b: usize, v: u64) -> Values {
+    fn fill(&mut self, a: u64, b: u64, v: u64) -> Values {
         let v = check_value(v)?;
         Span.when(a > b)?;
-        Position.when(b > self.bits.len())?;
-        self.bits[a..b].fill(v);
+        Position.when(b > length(&self.bits))?;
+        self.bits[a as usize..b as usize].fill(v);
         Ok((self.ones(), 0))
     }
 
     /// cut(n): 4; keeps the first n.
-    fn truncate(&mut self, n: usize) -> Values {
-        Position.when(n > self.bits.len())?;
-        self.bits.truncate(n);
+    fn truncate(&mut self, n: u64) -> Values {
+        Position.when(n > length(&self.bits))?;
+        self.bits.truncate(n as usize);
         Ok((self.ones(), 0))
     }
 }

@@ -1,7 +1,7 @@
 //! The paper machine: a strip and a shelf of rows as plain lists of bits, and every call by its definition over them.
 use crate::call::{Call, Opcode};
 use crate::layout;
-use crate::model::{self, Strip};
+use crate::model::{self, length, Strip};
 use crate::refusal::{Refusal, Values};
 use crate::Handle;
 use Refusal::*;
@@ -22,7 +22,7 @@ pub struct Machine {
 
 impl Machine {
     /// The opening lay and clear, in either order: the refusals of the first, then those of the second.
-    pub fn open(capacity: usize, clear_first: bool, lent: (usize, usize), image: &[u8]) -> Result<Machine, Refusal> {
+    pub fn open(capacity: u64, clear_first: bool, lent: (usize, usize), image: &[u8]) -> Result<Machine, Refusal> {
         let laid = model::check(Handle { capacity, length: 0 }, lent.0, Some(lent.1));
         let cleared = layout::check_size(image.len());
         if clear_first {
@@ -61,10 +61,10 @@ impl Machine {
     fn freeze(&mut self, label: u64) -> Values {
         model::check(self.strip.handle(), self.lent.0, None)?;
         self.check_chain()?;
-        layout::check_label(label as usize)?;
+        layout::check_label(label)?;
         LabelPresent.when(self.shelf.iter().any(|row| row.0 == label))?;
-        let start = 16 + self.shelf.iter().map(|row| layout::size(row.1.len())).sum::<usize>();
-        NoRoom.when(start + layout::size(self.strip.bits.len()) > self.base.len())?;
+        let start = 16 + self.shelf.iter().map(|row| layout::size(length(&row.1))).sum::<usize>();
+        NoRoom.when(start + layout::size(self.strip.handle().length) > self.base.len())?;
         self.shelf.push((label, self.strip.bits.clone()));
         Ok((start as u64 / 16, 0))
     }
@@ -78,7 +78,7 @@ impl Machine {
     /// A label's row in F: 10, 11, 14.
     fn row(&self, label: u64) -> Result<&[bool], Refusal> {
         self.check_chain()?;
-        layout::check_label(label as usize)?;
+        layout::check_label(label)?;
         self.shelf.iter().find(|row| row.0 == label).map(|row| &row.1[..]).ok_or(LabelAbsent)
     }
 
@@ -88,9 +88,9 @@ impl Machine {
         bytes[0] = u8::from(!self.shelf.is_empty());
         bytes[4] = 1;
         for (number, (label, bits)) in self.shelf.iter().enumerate() {
-            let end = bytes.len() + layout::size(bits.len());
-            let next = if number + 1 < self.shelf.len() { end / 16 } else { 0 };
-            bytes.extend(layout::record(next, *label as usize, bits));
+            let end = bytes.len() + layout::size(length(bits));
+            let next = if number + 1 < self.shelf.len() { end as u64 / 16 } else { 0 };
+            bytes.extend(layout::record(next, *label, bits));
         }
         bytes.extend(&self.base[bytes.len()..]);
         bytes

@@ -16,13 +16,18 @@ impl Random {
         self.0
     }
 
-    /// A number below n.
+    /// An index below n.
     pub fn below(&mut self, n: usize) -> usize {
-        ((self.number() >> 11) % n as u64) as usize
+        self.number_below(n as u64) as usize
+    }
+
+    /// A number below n, of 64 bits.
+    pub fn number_below(&mut self, n: u64) -> u64 {
+        (self.number() >> 11) % n
     }
 
     /// Bits of which about `share` in 1,000 are ones.
-    pub fn bits(&mut self, count: usize, share: usize) -> Vec<bool> {
+    pub fn bits(&mut self, count: u64, share: usize) -> Vec<bool> {
         (0..count).map(|_| self.below(1000) < share).collect()
     }
 }

@@ -1,38 +1,45 @@
 //! A record, words and counters, lent to the proved calls.
 use crate::call::{Call, Opcode};
 use crate::ffi::{
-    strip_create, strip_fill, strip_flip, strip_push, strip_rank, strip_select, strip_truncate, strip_verify,
+    strip_counter_count, strip_create, strip_fill, strip_flip, strip_push, strip_rank, strip_select, strip_truncate,
+    strip_verify,
 };
 use crate::guarded::Guarded;
 use crate::refusal::{answer, values, Answer, Values};
 use crate::Handle;
 
+/// The number of counters that a capacity needs.
+pub fn counters_needed(capacity: u64) -> Answer {
+    // SAFETY: the call takes a number only.
+    answer(unsafe { strip_counter_count(capacity) })
+}
+
 /// A call that changes a record. `Create` takes a capacity and no handle.
 #[derive(Clone, Copy, Debug)]
 pub enum Change {
-    Create(usize),
+    Create(u64),
     Push(u64),
-    Flip(usize),
-    Fill(usize, usize, u64),
-    Truncate(usize),
+    Flip(u64),
+    Fill(u64, u64, u64),
+    Truncate(u64),
 }
 
 /// A call that reads a record.
 #[derive(Clone, Copy, Debug)]
 pub enum Reading {
-    Rank(u64, usize),
-    Select(u64, usize),
+    Rank(u64, u64),
+    Select(u64, u64),
     Verify,
 }
 
 impl From<Change> for Call {
     fn from(change: Change) -> Call {
         match change {
-            Change::Create(c) => Call::new(Opcode::Create, [c as u64, 0, 0]),
+            Change::Create(c) => Call::new(Opcode::Create, [c, 0, 0]),
             Change::Push(v) => Call::new(Opcode::Push, [v, 0, 0]),
-            Change::Flip(i) => Call::new(Opcode::Flip, [i as u64, 0, 0]),
-            Change::Fill(a, b, v) => Call::new(Opcode::Fill, [a as u64, b as u64, v]),
-            Change::Truncate(n) => Call::new(Opcode::Truncate, [n as u64, 0, 0]),
+            Change::Flip(i) => Call::new(Opcode::Flip, [i, 0, 0]),
+            Change::Fill(a, b, v) => Call::new(Opcode::Fill, [a, b, v]),
+            Change::Truncate(n) => Call::new(Opcode::Truncate, [n, 0, 0]),
         }
     }
 }
@@ -40,8 +47,8 @@ impl From<Change> for Call {
 impl From<Reading> for Call {
     fn from(reading: Reading) -> Call {
         match reading {
-            Reading::Rank(v, i) => Call::new(Opcode::Rank, [v, i as u64, 0]),
-            Reading::Select(v, k) => Call::new(Opcode::Select, [v, k as u64, 0]),
+            Reading::Rank(v, i) => Call::new(Opcode::Rank, [v, i, 0]),
+            Reading::Select(v, k) => Call::new(Opcode::Select, [v, k, 0]),
             Reading::Verify => Call::new(Opcode::Verify, [0; 3]),
         }
     }
@@ -93,7 +100,7 @@ impl Record {
     pub fn change(&mut self, h: Handle, change: Change) -> Report {
         let out = self.run(h, change, 8);
         assert!(out[5..].iter().all(|number| *number == UNTOUCHED), "{change:?} wrote past the five numbers");
-        Report { told: values(&out), handle: Handle { capacity: out[3] as usize, length: out[4] as usize } }
+        Report { told: values(&out), handle: Handle { capacity: out[3], length: out[4] } }
     }
 
     /// Makes the call with an `out` of fewer than five numbers, and asserts that it wrote nothing there.

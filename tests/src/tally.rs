@@ -1,47 +1,85 @@
-//! What calls told, counted.
+//! What calls and queries told, counted.
 use crate::call::{Call, Opcode, CALLS};
-use crate::refusal::{Refusal, Values, REFUSALS};
+use crate::query::{Query, QUERIES};
+use crate::refusal::{Answer, Refusal, Values, REFUSALS};
 use std::io::Write;
 
-/// How often each call was accepted, at 0, and met each refusal, at its number.
+/// How often one of them was accepted, at 0, and met each refusal, at its number.
 #[derive(Default)]
-pub struct Tally([[usize; 1 + REFUSALS.len()]; CALLS]);
+struct Told([usize; 1 + REFUSALS.len()]);
 
-/// What a call told: its refusal, or that it was accepted.
-fn place(refusal: Option<Refusal>) -> usize {
-    refusal.map_or(0, |refusal| refusal.number() as usize)
+impl Told {
+    fn note(&mut self, refusal: Option<Refusal>) {
+        self.0[refusal.map_or(0, |refusal| refusal.number() as usize)] += 1;
+    }
+
+    fn met(&self, refusal: Refusal) -> usize {
+        self.0[refusal.number() as usize]
+    }
+
+    fn sum(&self) -> usize {
+        self.0.iter().sum()
+    }
+
+    /// Asserts that it was accepted, and met these refusals and no other.
+    fn expect(&self, name: &str, refusals: &[Refusal], what: &str) {
+        assert!(self.0[0] > 0, "{what}: {name} was never accepted");
+        let met: Vec<Refusal> = REFUSALS.into_iter().filter(|refusal| self.met(*refusal) > 0).collect();
+        assert_eq!(met, refusals, "{what}: what {name} told");
+    }
+}
+
+#[derive(Default)]
+pub struct Tally {
+    calls: [Told; CALLS],
+    queries: [Told; QUERIES.len()],
 }
 
 impl Tally {
     pub fn note(&mut self, call: Call, told: Values) {
-        self.0[call.opcode() as usize][place(told.err())] += 1;
+        self.calls[call.opcode() as usize].note(told.err());
     }
 
-    fn met(&self, opcode: Opcode, refusal: Option<Refusal>) -> bool {
-        self.0[opcode as usize][place(refusal)] > 0
+    pub fn note_query(&mut self, query: Query, told: Answer) {
+        self.queries[query.index()].note(told.err());
     }
 
     /// Whether a call was ever made.
     pub fn made(&self, opcode: Opcode) -> bool {
-        self.0[opcode as usize].iter().any(|number| *number > 0)
+        self.calls[opcode as usize].sum() > 0
     }
 
     /// Asserts that a call was accepted, and met these refusals, in the order of their numbers, and no other.
     pub fn expect(&self, opcode: Opcode, refusals: &[Refusal], what: &str) {
-        assert!(self.met(opcode, None), "{what}: {} was never accepted", opcode.name());
-        let met: Vec<Refusal> = REFUSALS.into_iter().filter(|refusal| self.met(opcode, Some(*refusal))).collect();
-        assert_eq!(met, refusals, "{what}: what {} told", opcode.name());
+        self.calls[opcode as usize].expect(opcode.name(), refusals, what);
     }
 
-    /// Prints how many calls were made, and how often each refusal was met.
-    pub fn print(&self, what: &str) {
-        let sum = |refusal: Option<Refusal>| self.0.iter().map(|row| row[place(refusal)]).sum::<usize>();
-        let met = REFUSALS.into_iter().map(|refusal| (refusal.number(), sum(Some(refusal))));
-        let refusals: Vec<String> = met.filter(|(_, n)| *n > 0).map(|(number, n)| format!("{number}: {n}")).collect();
-        let calls: usize = self.0.iter().flatten().sum();
-        let adds: usize = self.0[Opcode::Push as usize].iter().sum();
-        // not by println!, which the harness keeps back where the test passes
-        let mut out = std::io::stdout();
-        writeln!(out, "{what}: {calls} calls, {adds} of them adds; refusals {}", refusals.join(", ")).unwrap();
+    /// Asserts that each query was accepted, and met every refusal that it can and no other.
+    pub fn expect_queries(&self, what: &str) {
+        QUERIES.into_iter().for_each(|q| self.queries[q.index()].expect(q.name(), q.refusals(), what));
     }
+
+    /// Prints how many calls were made and queries asked, and how often each refusal was met.
+    pub fn print(&self, what: &str) {
+        let adds = self.calls[Opcode::Push as usize].sum();
+        print(what, &format!("calls, {adds} of them adds"), &self.calls);
+        print(what, "queries", &self.queries);
+    }
+}
+
+/// Prints what those of one kind told, if there were any.
+fn print(what: &str, kind: &str, list: &[Told]) {
+    let number: usize = list.iter().map(Told::sum).sum();
+    if number == 0 {
+        return;
+    }
+    let met = |refusal: Refusal| list.iter().map(|told| told.met(refusal)).sum::<usize>();
+    let refusals: Vec<String> = REFUSALS
+        .into_iter()
+        .filter(|refusal| met(*refusal) > 0)
+        .map(|refusal| format!("{}: {}", refusal.number(), met(refusal)))
+        .collect();
+    // not by println!, which the harness keeps back where the test passes
+    let mut out = std::io::stdout();
+    writeln!(out, "{what}: {number} {kind}; refusals {}", refusals.join(", ")).unwrap();
 }

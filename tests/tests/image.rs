@@ -3,17 +3,18 @@ use strip_tests::borders::{beside, FAR, LABELS, LARGEST, MOST_BYTES, SIZES, SMAL
 use strip_tests::cases::{at_call, Cases};
 use strip_tests::ffi;
 use strip_tests::image::{
-    clear, freeze, get, open, opened_get, opened_rank, opened_select, rank, row_get, row_rank, row_select, select,
+    clear, freeze, get, inspect, open, opened_get, opened_rank, opened_select, rank, record_size, row_get, row_label,
+    row_length, row_rank, row_select, rows, select,
 };
 use strip_tests::layout::{self, Row};
-use strip_tests::model::{self, number_of, words_of};
+use strip_tests::model::{self, length, number_of, words_of};
 use strip_tests::random::Random;
 use strip_tests::refusal::{answer, Answer, Refusal};
 use strip_tests::Handle;
 use Refusal::*;
 
 /// The lengths of rows: the small borders, and rows of more than one superblock.
-fn lengths() -> impl Iterator<Item = usize> {
+fn lengths() -> impl Iterator<Item = u64> {
     SMALL.into_iter().chain([8192, 40_000])
 }
 
@@ -21,26 +22,26 @@ fn lengths() -> impl Iterator<Item = usize> {
 
 /// Look, count and find at v and i, as answered on a row. On a wrong row a count may be any up to i, a find any position
 /// below the length or 6, and either 15.
-fn compare(row: &Row, v: u64, i: usize, [looked, counted, found]: [Answer; 3]) {
-    let n = row.bits.len();
+fn compare(row: &Row, v: u64, i: u64, [looked, counted, found]: [Answer; 3]) {
+    let n = length(&row.bits);
     assert_eq!(looked, model::get(&row.bits, i), "look({i}) of {n}");
     if row.right || v > 1 || i > n {
         assert_eq!(counted, model::rank(&row.bits, v, i), "count({v}, {i}) of {n}");
     } else {
-        let allowed = counted == Err(WrongRow) || counted.is_ok_and(|count| count <= i as u64);
+        let allowed = counted == Err(WrongRow) || counted.is_ok_and(|count| count <= i);
         assert!(allowed, "count({v}, {i}) of {n}: {counted:?}");
     }
     if row.right || v > 1 || i >= n {
         assert_eq!(found, model::select(&row.bits, v, i), "find({v}, {i}) of {n}");
     } else {
         let refused = found == Err(NotFound) || found == Err(WrongRow);
-        assert!(refused || found.is_ok_and(|p| p < n as u64), "find({v}, {i}) of {n}: {found:?}");
+        assert!(refused || found.is_ok_and(|p| p < n), "find({v}, {i}) of {n}: {found:?}");
     }
 }
 
 /// The three readings of a row's part at some positions.
-fn compare_part(part: &[u8], row: &Row, positions: &[usize]) {
-    let n = row.bits.len();
+fn compare_part(part: &[u8], row: &Row, positions: &[u64]) {
+    let n = length(&row.bits);
     for v in VALUES {
         for &i in positions {
             compare(row, v, i, [get(part, n, i), rank(part, n, v, i), select(part, n, v, i)]);
@@ -48,12 +49,13 @@ fn compare_part(part: &[u8], row: &Row, positions: &[usize]) {
     }
 }
 
-/// The three readings of a label's row at some positions.
-fn compare_row(image: &[u8], label: usize, positions: &[usize]) {
+/// The three readings of a label's row at some positions, and those of the row opened, which answer the same.
+fn compare_row(image: &[u8], label: u64, positions: &[u64]) {
     let row = layout::row(image, label);
     for v in VALUES {
         for &i in positions {
             let got = [row_get(image, label, i), row_rank(image, label, v, i), row_select(image, label, v, i)];
+            assert_eq!(opened(image, label, v, i), got, "v {v}, position {i} of label {label}, opened");
             match &row {
                 Ok(row) => compare(row, v, i, got),
                 Err(refusal) => assert_eq!(got, [Err(*refusal); 3], "label {label}"),
@@ -63,7 +65,7 @@ fn compare_row(image: &[u8], label: usize, positions: &[usize]) {
 }
 
 /// freeze(label): the answer, every byte, and one record more in the chain.
-fn compare_freeze(image: &mut [u8], (h, lent): (Handle, &[bool]), label: usize) -> Answer {
+fn compare_freeze(image: &mut [u8], (h, lent): (Handle, &[bool]), label: u64) -> Answer {
     let mut wanted = image.to_vec();
     let mut places = layout::chain(image);
     let told = layout::freeze(h, lent, &mut wanted, label);
@@ -76,10 +78,24 @@ fn compare_freeze(image: &mut [u8], (h, lent): (Handle, &[bool]), label: usize) 
     told
 }
 
-/// Opening, the readings and a freeze for some labels; the image stays as it is.
-fn compare_all(image: &[u8], labels: &[usize]) {
+/// Inspect, the listing of the rows, and no row past them.
+fn compare_rows(image: &[u8]) {
+    assert_eq!(inspect(image), layout::inspect(image), "inspect of {} bytes", image.len());
+    let sound = layout::rows(image);
+    let past = if sound.is_some() { LabelAbsent } else { Unsound };
+    let wanted = sound.unwrap_or_default();
+    for k in FAR.into_iter().chain([1, 2, WIDE - 2].map(|more| wanted.len() as u64 + more)) {
+        assert_eq!(row_label(image, k), Err(past), "row {k} of {}", wanted.len());
+    }
+    assert_eq!(rows(image), (wanted, past));
+}
+
+/// Inspect, the rows; then opening, the row's length, the readings and a freeze for some labels. The image stays as it is.
+fn compare_all(image: &[u8], labels: &[u64]) {
     let strip = text("0110").repeat(128);
+    compare_rows(image);
     for &label in labels {
+        assert_eq!(row_length(image, label), layout::row_length(image, label), "length of label {label}");
         assert_eq!(open(image, label), layout::open(image, label), "label {label}");
         compare_row(image, label, &[0, 4, 600, 5000]);
         let _ = compare_freeze(&mut image.to_vec(), (Handle { capacity: 512, length: 7 }, &strip), label);
@@ -93,7 +109,7 @@ fn text(bits: &str) -> Vec<bool> {
 }
 
 /// A strip with anything past its length.
-fn strip(random: &mut Random, capacity: usize, length: usize, share: usize) -> (Handle, Vec<bool>) {
+fn strip(random: &mut Random, capacity: u64, length: u64, share: usize) -> (Handle, Vec<bool>) {
     let lent = [random.bits(length, share), random.bits(capacity - length, 500)].concat();
     (Handle { capacity, length }, lent)
 }
@@ -107,12 +123,12 @@ fn cleared(size: usize) -> Vec<u8> {
 
 /// Positions around the ends of words, blocks, superblocks and the row, around the number of ones and of zeros, far past the
 /// row, and some at random.
-fn positions(random: &mut Random, bits: &[bool], some: usize) -> Vec<usize> {
+fn positions(random: &mut Random, bits: &[bool], some: usize) -> Vec<u64> {
     let mut list = [&SMALL[..], &FAR].concat();
-    for edge in [bits.len() as u64, number_of(bits, true), number_of(bits, false)] {
-        list.extend(beside(edge as usize));
+    for edge in [length(bits), number_of(bits, true), number_of(bits, false)] {
+        list.extend(beside(edge));
     }
-    list.extend((0..some).map(|_| random.below(bits.len() + 3)));
+    list.extend((0..some).map(|_| random.number_below(length(bits) + 3)));
     list
 }
 
@@ -124,7 +140,7 @@ fn gapped(random: &mut Random, spare: usize) -> Vec<u8> {
 
 /// Flips a bit of a row's ones, entries or padding.
 fn damage(random: &mut Random, part: &mut [u8]) {
-    let length = layout::number(part, 8);
+    let length = layout::number(part, 8) as usize;
     let start = 128 + 128 * length.div_ceil(4096);
     let bit = 96 + random.below(8 * part.len() - length - 96);
     let bit = if bit < start { bit } else { bit + length };
@@ -147,6 +163,7 @@ fn clear_writes_a_header() {
         assert_eq!(bytes[..16], [0, 0, 0, 0, 1, 0, 0, 0, 0, 0, 0, 0, 0, 0, 0, 0]);
         assert!(bytes[16..].iter().all(|&b| b == 0x77));
         assert_eq!(open(&bytes, 1), Err(LabelAbsent));
+        assert_eq!((inspect(&bytes), row_label(&bytes, 0)), (Ok(0), Err(LabelAbsent)));
     }
 }
 
@@ -171,8 +188,10 @@ fn the_strip_01010_as_label_3() {
     assert_eq!(freeze(h, &words, &mut image, 3), Ok(1));
     assert_eq!(image, bytes);
     assert_eq!(open(&bytes, 3), Ok(16));
+    assert_eq!((inspect(&bytes), record_size(5)), (Ok(1), Ok(544)));
+    assert_eq!(rows(&bytes), (vec![(3, 5)], LabelAbsent));
     let part = &bytes[16..];
-    for (i, (bit, ones)) in [(0, 0), (1, 0), (0, 1), (1, 1), (0, 2)].into_iter().enumerate() {
+    for (i, (bit, ones)) in (0..).zip([(0, 0), (1, 0), (0, 1), (1, 1), (0, 2)]) {
         assert_eq!((get(part, 5, i), row_get(&bytes, 3, i)), (Ok(bit), Ok(bit)));
         assert_eq!((rank(part, 5, 1, i), row_rank(&bytes, 3, 1, i)), (Ok(ones), Ok(ones)));
     }
@@ -193,7 +212,7 @@ fn right_rows_read_as_strips() {
         for share in [0, 3, 500, 1000] {
             cases.run(|random| {
                 let bits = random.bits(length, share);
-                let part = layout::record(random.below(1 << 32), 1 + random.below(64), &bits);
+                let part = layout::record(random.number_below(WIDE), 1 + random.number_below(64), &bits);
                 let row = Row::new(&part);
                 assert!(row.right && row.bits == bits);
                 compare_part(&part, &row, &positions(random, &bits, 40));
@@ -203,7 +222,7 @@ fn right_rows_read_as_strips() {
 }
 
 /// The three readings of a part are refused as not one record of length n, whatever their arguments.
-fn no_part(part: &[u8], n: usize) {
+fn no_part(part: &[u8], n: u64) {
     for v in VALUES {
         for i in [0, 5000].into_iter().chain(FAR) {
             assert_eq!(get(part, n, i), Err(Unsound));
@@ -224,12 +243,12 @@ fn a_part_is_exactly_one_record() {
             no_part(&part[..size], 5000);
         }
         no_part(&[&part[..], &[0]].concat(), 5000);
-        for label in [0, 65, u32::MAX as usize] {
+        for label in [0, 65, u32::MAX.into()] {
             let mut bad = part.clone();
             layout::store(&mut bad, 4, label);
             no_part(&bad, 5000);
         }
-        for length in [0, 4096, 8193, LARGEST, LARGEST + 1, u32::MAX as usize] {
+        for length in [0, 4096, 8193, LARGEST, LARGEST + 1, u32::MAX.into()] {
             let mut bad = part.clone();
             layout::store(&mut bad, 8, length);
             no_part(&bad, length);
@@ -267,11 +286,13 @@ fn freeze_of_each_length() {
             for share in [0, 3, 500, 1000] {
                 cases.run(|random| {
                     let (h, lent) = strip(random, capacity, length, share);
-                    let label = 1 + random.below(64);
+                    let label = 1 + random.number_below(64);
                     let mut image = cleared(16 + layout::size(length) + random.below(40));
                     assert_eq!(compare_freeze(&mut image, (h, &lent), label), Ok(1));
-                    assert!(layout::row(&image, label).unwrap().bits == lent[..length]);
-                    compare_row(&image, label, &positions(random, &lent[..length], 10));
+                    let bits = &lent[..length as usize];
+                    assert!(layout::row(&image, label).unwrap().bits == bits);
+                    assert_eq!((inspect(&image), row_length(&image, label)), (Ok(1), Ok(length)));
+                    compare_row(&image, label, &positions(random, bits, 10));
                 });
             }
         }
@@ -290,6 +311,8 @@ fn a_long_strip_frozen_and_read() {
         let some = positions(random, &lent, 10);
         compare_part(&image[16..], &row, &some);
         compare_row(&image, 9, &some);
+        assert_eq!(rows(&image), (vec![(9, length)], LabelAbsent));
+        assert_eq!(inspect(&image), Ok(1));
     });
 }
 
@@ -313,7 +336,7 @@ fn freeze_needs_room() {
                     let (h, lent) = strip(random, 20_480, length, 500);
                     assert_eq!(compare_freeze(&mut image, (h, &lent), 7), told);
                     for label in [1, 3, 5, 7, 9, 64] {
-                        compare_row(&image, label, &positions(random, &lent[..length], 0));
+                        compare_row(&image, label, &positions(random, &lent[..length as usize], 0));
                     }
                 });
             }
@@ -345,10 +368,10 @@ fn freeze_refuses_in_order() {
     let mut cases = Cases::new("image", "freeze_refuses_in_order", 79);
     for faults in 0..64usize {
         let has = |refusal: Refusal| faults >> order.iter().position(|&r| r == refusal).unwrap() & 1 == 1;
-        let bad = [(1025, 0), (0, 0), (1536, 1537), (usize::MAX - 511, 0)];
+        let bad = [(1025, 0), (0, 0), (1536, 1537), (u64::MAX - 511, 0)];
         let handles = if has(BadHandle) { &bad[..] } else { &[(1024, 1000)] };
         let present = if has(LabelPresent) { 3 } else { 4 };
-        let labels = if has(BadLabel) { &[0, 65, WIDE, usize::MAX][..] } else { &[present] };
+        let labels = if has(BadLabel) { &[0, 65, WIDE, u64::MAX][..] } else { &[present] };
         let mut image = layout::image(&[(1, 3, text("0110"))], if has(NoRoom) { 33 } else { 34 });
         if has(Unsound) {
             image[9] = 1;
@@ -358,7 +381,7 @@ fn freeze_refuses_in_order() {
             let bits = random.bits(1088, 500);
             for &(capacity, length) in handles {
                 for &label in labels {
-                    let lent = &bits[..if has(WordCount) { [960, 1088][label % 2] } else { 1024 }];
+                    let lent = &bits[..if has(WordCount) { [960, 1088][label as usize % 2] } else { 1024 }];
                     let answer = compare_freeze(&mut image.clone(), (Handle { capacity, length }, lent), label);
                     assert_eq!(answer, told, "faults {faults:06b}");
                 }
@@ -374,7 +397,11 @@ fn frozen_rows_read_back() {
     for _ in 0..30 {
         cases.run(|random| {
             let mut image = cleared(16 + random.below(30_000));
-            for (label, bits) in fill_image(random, &mut image) {
+            let frozen = fill_image(random, &mut image);
+            let listed = frozen.iter().map(|(label, bits)| (*label, length(bits))).collect();
+            assert_eq!(rows(&image), (listed, LabelAbsent));
+            assert_eq!(inspect(&image), Ok(frozen.len() as u64));
+            for (label, bits) in frozen {
                 let row = layout::row(&image, label).unwrap();
                 assert!(row.right && row.bits == bits);
                 compare_row(&image, label, &positions(random, &bits, 30));
@@ -385,16 +412,16 @@ fn frozen_rows_read_back() {
 }
 
 /// Freezes drawn strips till one does not fit: the rows frozen.
-fn fill_image(random: &mut Random, image: &mut [u8]) -> Vec<(usize, Vec<bool>)> {
+fn fill_image(random: &mut Random, image: &mut [u8]) -> Vec<(u64, Vec<bool>)> {
     let mut rows = Vec::new();
     for number in 0.. {
         at_call(number);
-        let capacity = 512 * (1 + random.below(18));
-        let (length, share) = (random.below(capacity + 1), random.below(1001));
+        let capacity = 512 * (1 + random.number_below(18));
+        let (length, share) = (random.number_below(capacity + 1), random.below(1001));
         let (h, lent) = strip(random, capacity, length, share);
-        let label = random.below(67);
+        let label = random.number_below(67);
         match compare_freeze(image, (h, &lent), label) {
-            Ok(_) => rows.push((label, lent[..length].to_vec())),
+            Ok(_) => rows.push((label, lent[..length as usize].to_vec())),
             Err(NoRoom) => break,
             Err(_) => {}
         }
@@ -421,12 +448,10 @@ fn wrong_rows_beside_right_ones() {
                 let label = layout::number(&image, at + 4);
                 let row = layout::row(&image, label).unwrap();
                 assert_eq!(row.right, at != wrong, "label {label}");
-                let positions = positions(random, &row.bits, 30);
-                compare_row(&image, label, &positions);
-                for &i in &positions {
-                    compare(&row, 1, i, opened(&image, label, 1, i));
-                }
+                compare_row(&image, label, &positions(random, &row.bits, 30));
             }
+            assert_eq!(inspect(&image), Err(WrongRow));
+            compare_rows(&image);
         });
     }
 }
@@ -467,7 +492,7 @@ fn damaged_numbers() {
             for at in places.iter().chain([&0]).flat_map(|p| [0, 4, 8, 12].map(|field| p + field)) {
                 let was = layout::number(&image, at);
                 let near = [was.wrapping_sub(1), was + 1, was + 4096, 0, 1, 2, 64, 65, 4096];
-                let far = [LARGEST, LARGEST + 1, u32::MAX as usize];
+                let far = [LARGEST, LARGEST + 1, u32::MAX.into()];
                 let flipped = (0..32).map(|bit| was ^ 1 << bit);
                 for value in flipped.chain(near).chain(far) {
                     let mut bad = image.clone();
@@ -488,12 +513,13 @@ fn every_index_to_every_unit() {
         cases.run(|random| {
             let mut image = gapped(random, 3);
             let places = layout::chain(&image).unwrap();
-            let next = next.unwrap_or(image.len() / 16);
-            for unit in (1..image.len() / 16).filter(|unit| !places.contains(&(16 * unit))) {
+            let units = image.len() / 16;
+            let next = next.unwrap_or(units as u64);
+            for unit in (1..units).filter(|unit| !places.contains(&(16 * unit))) {
                 image[16 * unit..16 * unit + 16].copy_from_slice(&layout::record(next, 7, &[]));
             }
             for &link in [0].iter().chain(&places) {
-                for unit in 0..image.len() / 16 + 2 {
+                for unit in 0..units as u64 + 2 {
                     let mut bad = image.clone();
                     layout::store(&mut bad, link, unit);
                     compare_all(&bad, &[7, 9]);
@@ -533,12 +559,16 @@ fn the_longest_row() {
     assert_eq!(open(&image, 5), Err(Unsound));
     assert_eq!(row_get(&image, 5, 0), Err(Unsound));
     assert_eq!(compare_freeze(&mut image, (h, &lent), 6), Err(Unsound));
+    assert_eq!([inspect(&image), row_length(&image, 5), row_label(&image, 0)], [Err(Unsound); 3]);
     layout::store(&mut image, 24, LARGEST);
+    assert_eq!(inspect(&image), Err(WrongRow));
+    assert_eq!(rows(&image), (vec![(5, LARGEST)], LabelAbsent));
     assert_eq!(open(&image, 5), Ok(16));
     assert_eq!(row_get(&image, 5, LARGEST - 1), Ok(1));
     assert_eq!(row_get(&image, 5, LARGEST), Err(Position));
     assert_eq!(compare_freeze(&mut image, (h, &lent), 6), Ok(2 + 33 * 32_768));
     compare_row(&image, 6, &[3]);
+    assert_eq!(rows(&image), (vec![(5, LARGEST), (6, 7)], LabelAbsent));
 }
 
 /// 2^32 bytes are the most. Bytes that no call touches take no memory.
@@ -560,6 +590,13 @@ fn the_largest_image() {
         assert_eq!(answer(ffi::image_row_select(bytes, most + 1, 3, 1, 1)), Err(Unsound));
         assert_eq!(answer(ffi::image_row_get(bytes, most + 1, 3, 0)), Err(Unsound));
         assert_eq!(answer(ffi::image_open(bytes, most + 1, 3)), Err(Unsound));
+        assert_eq!(answer(ffi::image_inspect(bytes, most)), Ok(1));
+        assert_eq!(answer(ffi::image_inspect(bytes, most + 1)), Err(Unsound));
+        assert_eq!(answer(ffi::image_row_length(bytes, most, 3)), Ok(5));
+        assert_eq!(answer(ffi::image_row_length(bytes, most + 1, 3)), Err(Unsound));
+        assert_eq!(answer(ffi::image_row_label(bytes, most, 0)), Ok(3));
+        assert_eq!(answer(ffi::image_row_label(bytes, most, 1)), Err(LabelAbsent));
+        assert_eq!(answer(ffi::image_row_label(bytes, most + 1, 0)), Err(Unsound));
     }
 }
 
@@ -587,7 +624,7 @@ fn random_chains() {
         cases.run(|random| {
             let mut rows = Vec::new();
             for _ in 0..random.below(5) {
-                let length = random.below(2) * random.below(5000);
+                let length = random.number_below(2) * random.number_below(5000);
                 rows.push((random.below(3), [1, 2, 3, 4, 9, 63, 64, 65][random.below(8)], random.bits(length, 500)));
             }
             let mut image = layout::image(&rows, random.below(40));
@@ -602,11 +639,11 @@ fn random_chains() {
 }
 
 /// The three readings of an opened row.
-fn opened(image: &[u8], label: usize, v: u64, i: usize) -> [Answer; 3] {
+fn opened(image: &[u8], label: u64, v: u64, i: u64) -> [Answer; 3] {
     [opened_get(image, label, i), opened_rank(image, label, v, i), opened_select(image, label, v, i)]
 }
 
-/// Look, count and find of both values; a refused opening's row is empty, and gets 10.
+/// Look, count and find of both values; the refusal of an opening passes through.
 #[test]
 fn an_opened_row_reads_as_its_strip() {
     let mut cases = Cases::new("image", "an_opened_row_reads_as_its_strip", 86);
@@ -617,15 +654,22 @@ fn an_opened_row_reads_as_its_strip() {
             for (_, label, bits) in &rows {
                 let row = layout::row(&image, *label).unwrap();
                 assert!(row.right && row.bits == *bits);
-                for i in (0..bits.len() + 2).chain(FAR) {
+                for i in (0..length(bits) + 2).chain(FAR) {
                     compare(&row, v, i, opened(&image, *label, v, i));
                 }
             }
-            for label in LABELS.into_iter().filter(|label| ![1, 3, 64].contains(label)).chain([2]) {
-                assert_eq!(opened(&image, label, v, 0), [Err(Unsound); 3]);
-            }
-            for size in [0, 15, 16, image.len() - 17] {
-                assert_eq!(opened(&image[..size], 3, v, 0), [Err(Unsound); 3]);
+            for i in [0, 5000, u64::MAX] {
+                for label in [2, 63] {
+                    assert_eq!(opened(&image, label, v, i), [Err(LabelAbsent); 3]);
+                }
+                for label in LABELS.into_iter().filter(|label| ![1, 3, 64].contains(label)) {
+                    assert_eq!(opened(&image, label, v, i), [Err(BadLabel); 3]);
+                }
+                for label in LABELS {
+                    for size in [0, 15, 16, image.len() - 17] {
+                        assert_eq!(opened(&image[..size], label, v, i), [Err(Unsound); 3]);
+                    }
+                }
             }
         });
     }

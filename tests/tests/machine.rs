@@ -6,8 +6,9 @@ use strip_tests::call::{Call, Opcode, CALLS, OPCODES};
 use strip_tests::cases::{at_call, setting, Cases};
 use strip_tests::draw::{self, Scene};
 use strip_tests::ffi;
+use strip_tests::image::rows;
 use strip_tests::layout;
-use strip_tests::model::counter_count;
+use strip_tests::model::{counter_count, length, word_count};
 use strip_tests::paper::Machine;
 use strip_tests::random::Random;
 use strip_tests::record::UNTOUCHED;
@@ -67,7 +68,7 @@ impl List {
             clear_first,
             words: (0..words).map(|_| random.number()).collect(),
             counters: (0..counters).map(|_| random.number() as u32).collect(),
-            machine: Machine::open(capacity as usize, clear_first != 0, (words, counters), &image),
+            machine: Machine::open(capacity, clear_first != 0, (words, counters), &image),
             image,
             script: Vec::new(),
             answers: Vec::new(),
@@ -75,9 +76,9 @@ impl List {
     }
 
     /// As many words and counters as the capacity needs.
-    fn fitting(random: &mut Random, capacity: usize, bytes: usize) -> List {
+    fn fitting(random: &mut Random, capacity: u64, bytes: usize) -> List {
         let clear_first = if random.below(4) == 0 { 0 } else { VALUES[random.below(VALUES.len())] };
-        List::open(random, capacity as u64, clear_first, [capacity / 64, counter_count(capacity), bytes])
+        List::open(random, capacity, clear_first, [word_count(capacity), counter_count(capacity), bytes])
     }
 
     fn machine(&self) -> &Machine {
@@ -94,7 +95,7 @@ impl List {
     }
 
     /// Adds, of which about `share` in 1,000 are of 1.
-    fn push(&mut self, random: &mut Random, number: usize, share: usize, tally: &mut Tally) {
+    fn push(&mut self, random: &mut Random, number: u64, share: usize, tally: &mut Tally) {
         for _ in 0..number {
             let v = u64::from(random.below(1000) < share);
             self.feed(Call::new(Push, [v, 0, 0]), tally);
@@ -107,7 +108,7 @@ impl List {
         for _ in 0..number {
             let opcode = OPCODES[weighted(random, &weights)];
             let machine = self.machine();
-            let capacity = machine.strip.capacity as u64;
+            let capacity = machine.strip.capacity;
             let scene = Scene { capacity, strip: &machine.strip.bits, rows: &machine.shelf };
             let call = draw::call(random, opcode, &scene);
             self.feed(call, tally);
@@ -128,7 +129,7 @@ impl List {
                 let h = machine.strip.handle();
                 assert_eq!(run, self.script.len() as u64 / 4, "calls run");
                 self.compare_answers(&answers[3..self.room()]);
-                assert_eq!(answers[..3], [0, h.capacity as u64, h.length as u64], "the last handle");
+                assert_eq!(answers[..3], [0, h.capacity, h.length], "the last handle");
                 assert!(answers[self.room()..].iter().all(|number| *number == UNTOUCHED), "an answer past the last");
                 compare_buffers(&buffers, machine);
             }
@@ -159,12 +160,15 @@ impl List {
     }
 }
 
-/// Words and counters are those laid afresh from S, and the image is F written out over B.
+/// Words and counters are those laid afresh from S, the image is F written out over B, and its rows are listed as F.
 fn compare_buffers(buffers: &Buffers, machine: &Machine) {
     let strip = &machine.strip;
     assert!(buffers.words() == strip.words(), "words under {:?}", strip.handle());
     assert!(buffers.counters() == strip.counters(), "counters under {:?}", strip.handle());
-    assert!(buffers.image() == machine.image(), "{} rows in {} bytes", machine.shelf.len(), buffers.image().len());
+    let (image, shelf) = (buffers.image(), &machine.shelf);
+    assert!(image == machine.image(), "{} rows in {} bytes", shelf.len(), image.len());
+    let listed = shelf.iter().map(|(label, bits)| (*label, length(bits))).collect();
+    assert_eq!(rows(image), (listed, LabelAbsent));
 }
 
 /// How often each call comes in a list; lay and clear seldom, for they empty the strip and the shelf. In half of the lists
@@ -193,7 +197,7 @@ fn weighted(random: &mut Random, weights: &[usize]) -> usize {
 }
 
 /// A list of rounds, each so many adds and then so many calls of every kind, with a lay before every round but the first.
-fn rounds(random: &mut Random, mut list: List, rounds: &[(usize, usize)], tally: &mut Tally) {
+fn rounds(random: &mut Random, mut list: List, rounds: &[(u64, usize)], tally: &mut Tally) {
     for (round, (adds, calls)) in rounds.iter().enumerate() {
         if round > 0 {
             list.feed(Call::new(Create, [list.capacity, 0, 0]), tally);
@@ -206,11 +210,11 @@ fn rounds(random: &mut Random, mut list: List, rounds: &[(usize, usize)], tally:
 }
 
 /// So many adds: none, some, or as many as fill the strip and up to two more.
-fn adds(random: &mut Random, capacity: usize) -> usize {
+fn adds(random: &mut Random, capacity: u64) -> u64 {
     match random.below(4) {
         0 => 0,
-        1 => capacity + random.below(3),
-        _ => random.below(capacity + 1),
+        1 => capacity + random.number_below(3),
+        _ => random.number_below(capacity + 1),
     }
 }
 
@@ -218,7 +222,7 @@ fn adds(random: &mut Random, capacity: usize) -> usize {
 
 /// A list of up to 7,500 calls and the adds before them, under a small capacity.
 fn small_list(random: &mut Random, tally: &mut Tally) {
-    let capacity = 512 * (1 + random.below(12));
+    let capacity = 512 * (1 + random.number_below(12));
     let most = [40, 1500, 12_000, 80_000][random.below(4)];
     let bytes = 16 + random.below(most);
     let list = List::fitting(random, capacity, bytes);
@@ -237,7 +241,7 @@ fn lists_at_one_level() {
             let capacity = 512 * [16, 60, 63, 64][random.below(4)];
             let bytes = 16 + random.below(30_000);
             let list = List::fitting(random, capacity, bytes);
-            let plan = [(random.below(2000), 500), (adds(random, capacity), 2000)];
+            let plan = [(random.number_below(2000), 500), (adds(random, capacity), 2000)];
             rounds(random, list, &plan, &mut tally);
         });
     }
@@ -252,8 +256,9 @@ fn lists_at_two_levels() {
             let capacity = [TWO_LEVELS, 33_792, 65_536, 66_048][random.below(4)];
             let bytes = 16 + random.below(60_000);
             let list = List::fitting(random, capacity, bytes);
-            let full = [capacity, ONE_LEVEL - random.below(40), ONE_LEVEL + random.below(500)][number % 3];
-            let plan = [(random.below(2000), 1000), (full, 5000)];
+            let full =
+                [capacity, ONE_LEVEL - random.number_below(40), ONE_LEVEL + random.number_below(500)][number % 3];
+            let plan = [(random.number_below(2000), 1000), (full, 5000)];
             rounds(random, list, &plan, &mut tally);
         });
     }
@@ -276,7 +281,7 @@ fn lists_at_three_levels() {
 }
 
 /// A list with so many adds in its second round.
-fn long_list(random: &mut Random, capacity: usize, adds: usize, tally: &mut Tally) {
+fn long_list(random: &mut Random, capacity: u64, adds: u64, tally: &mut Tally) {
     let list = List::fitting(random, capacity, 600_000);
     rounds(random, list, &[(40_000, 300), (adds, 1500)], tally);
 }
@@ -304,7 +309,7 @@ fn openings() {
                 for bytes in SIZES.into_iter().chain([600]) {
                     for clear_first in [0, 1, u64::MAX] {
                         cases.run(|random| {
-                            let list = short_list(random, capacity as u64, clear_first, [words, counters, bytes]);
+                            let list = short_list(random, capacity, clear_first, [words, counters, bytes]);
                             list.compare(random.below(3));
                             accepted += usize::from(list.machine.is_ok());
                             refused.extend(list.machine.err());
@@ -326,11 +331,11 @@ fn openings() {
 #[test]
 fn the_first_of_the_opening_refuses() {
     let mut cases = Cases::new("machine", "the_first_of_the_opening_refuses", 105);
-    let lays = [(BadHandle, [513, 8, 72]), (WordCount, [512, 9, 72]), (CounterCount, [512, 8, 73])];
-    for (refusal, [capacity, words, counters]) in lays {
+    let lays = [(BadHandle, 513, [8, 72]), (WordCount, 512, [9, 72]), (CounterCount, 512, [8, 73])];
+    for (refusal, capacity, [words, counters]) in lays {
         for clear_first in VALUES {
             cases.run(|random| {
-                let list = short_list(random, capacity as u64, clear_first, [words, counters, 15]);
+                let list = short_list(random, capacity, clear_first, [words, counters, 15]);
                 assert_eq!(list.machine.as_ref().err(), Some(&if clear_first == 0 { refusal } else { NoRoom }));
                 list.compare(0);
             });
@@ -408,17 +413,17 @@ fn script(calls: &[(Opcode, [u64; 3])]) -> Vec<u64> {
 
 /// A list of few calls, at times with an opening that is refused.
 fn tiny_list(random: &mut Random, tally: &mut Tally) {
-    let capacity = 512 * (1 + random.below(2));
+    let capacity = 512 * (1 + random.number_below(2));
     let most = [1, 40, 600, 1200][random.below(4)];
     let bytes = 16 + random.below(most);
     if random.below(32) == 0 {
-        let sizes = [capacity / 64 + random.below(2), 71 + random.below(2), bytes - random.below(17)];
-        let clear_first = random.below(2) as u64;
-        short_list(random, capacity as u64, clear_first, sizes).compare(0);
+        let sizes = [word_count(capacity) + random.below(2), 71 + random.below(2), bytes - random.below(17)];
+        let clear_first = random.number_below(2);
+        short_list(random, capacity, clear_first, sizes).compare(0);
         return;
     }
     let list = List::fitting(random, capacity, bytes);
-    let first = if random.below(64) == 0 { capacity + random.below(3) } else { random.below(24) };
+    let first = if random.below(64) == 0 { capacity + random.number_below(3) } else { random.number_below(24) };
     let calls = random.below(16);
     rounds(random, list, &[(first, calls)], tally);
 }
@@ -448,12 +453,12 @@ fn many_long_lists() {
 // ---- examples, with their answers worked out by hand
 
 /// What calls tell after the strip's bits were added one by one under a capacity, with an image of 560 bytes.
-fn after(capacity: usize, text: &str, calls: &[(Opcode, [u64; 3])]) -> Vec<Values> {
+fn after(capacity: u64, text: &str, calls: &[(Opcode, [u64; 3])]) -> Vec<Values> {
     let adds: Vec<_> = text.bytes().map(|c| (Push, [u64::from(c - b'0'), 0, 0])).collect();
     let script = script(&[&adds, calls].concat());
     let counters = vec![7; counter_count(capacity)];
-    let mut buffers = Buffers::new(&vec![7; capacity / 64], &counters, &[7; 560]);
-    let (run, answers) = buffers.execute(&script, capacity as u64, 0, 3 + 3 * (script.len() / 4));
+    let mut buffers = Buffers::new(&vec![7; word_count(capacity)], &counters, &[7; 560]);
+    let (run, answers) = buffers.execute(&script, capacity, 0, 3 + 3 * (script.len() / 4));
     assert_eq!(run as usize, script.len() / 4);
     answers[3 + 3 * text.len()..].chunks(3).map(values).collect()
 }
@@ -477,7 +482,7 @@ fn examples() {
     assert_eq!(after(33_280, &"1".repeat(33_280), &[(Flip, [32_768, 0, 0])]), [Ok((0, 29))]);
     // P11
     for (capacity, counters) in COUNTERS {
-        assert_eq!(after(capacity, "", &[(Create, [capacity as u64, 0, 0])]), [one(counters as u64)]);
+        assert_eq!(after(capacity, "", &[(Create, [capacity, 0, 0])]), [one(counters as u64)]);
     }
     // P12, and the readings of its row
     let rows = [(Freeze, [3, 0, 0]), (Inspect, [0; 3]), (RowRank, [3, 1, 4]), (RowSelect, [3, 1, 1])];

@@ -4,9 +4,9 @@ use strip_tests::borders::{
     VALUES,
 };
 use strip_tests::cases::{at_call, Cases};
-use strip_tests::model::{self, counter_count, Strip};
+use strip_tests::model::{self, counter_count, word_count, Strip};
 use strip_tests::random::Random;
-use strip_tests::record::{Change, Reading, Record, Report};
+use strip_tests::record::{counters_needed, Change, Reading, Record, Report};
 use strip_tests::refusal::{Answer, Refusal};
 use strip_tests::Handle;
 use Change::{Create, Fill, Flip, Push, Truncate};
@@ -28,7 +28,7 @@ struct Pair {
 
 impl Pair {
     /// The words are set, and a run over an empty span lays the counters.
-    fn new(capacity: usize, bits: Vec<bool>) -> Pair {
+    fn new(capacity: u64, bits: Vec<bool>) -> Pair {
         let strip = Strip::new(capacity, bits);
         let record = Record::new(&strip.words(), &vec![0xdead_beef; counter_count(capacity)]);
         let mut pair = Pair { strip, record };
@@ -37,10 +37,10 @@ impl Pair {
     }
 
     /// Laid, then an add for each bit.
-    fn pushed(capacity: usize, bits: &[bool]) -> Pair {
+    fn pushed(capacity: u64, bits: &[bool]) -> Pair {
         let strip = Strip::new(capacity, Vec::new());
         let junk = vec![0xdead_beef; counter_count(capacity)];
-        let mut pair = Pair { strip, record: Record::new(&vec![u64::MAX; capacity / 64], &junk) };
+        let mut pair = Pair { strip, record: Record::new(&vec![u64::MAX; word_count(capacity)], &junk) };
         pair.change(Create(capacity));
         for bit in bits {
             pair.change(Push(u64::from(*bit)));
@@ -48,7 +48,7 @@ impl Pair {
         pair
     }
 
-    fn from_text(capacity: usize, text: &str) -> Pair {
+    fn from_text(capacity: u64, text: &str) -> Pair {
         Pair::pushed(capacity, &text.bytes().map(|c| c == b'1').collect::<Vec<bool>>())
     }
 
@@ -92,9 +92,9 @@ impl Pair {
 }
 
 /// A position below n, often beside the end of a word, a block, a group, a node.
-fn place(random: &mut Random, n: usize) -> usize {
+fn place(random: &mut Random, n: u64) -> u64 {
     let unit = if random.below(4) == 0 { 1 } else { UNITS[random.below(UNITS.len())] };
-    let edge = random.below(n / unit + 1) * unit + random.below(3);
+    let edge = random.number_below(n / unit + 1) * unit + random.number_below(3);
     edge.saturating_sub(1).min(n - 1)
 }
 
@@ -143,7 +143,8 @@ fn p7_to_p10() {
 #[test]
 fn p11() {
     for (capacity, number) in COUNTERS {
-        let mut record = Record::new(&vec![u64::MAX; capacity / 64], &vec![u32::MAX; number]);
+        assert_eq!(counters_needed(capacity), Ok(number as u64));
+        let mut record = Record::new(&vec![u64::MAX; word_count(capacity)], &vec![u32::MAX; number]);
         let handle = Handle { capacity, length: 0 };
         // the handle that it gets is of no account to create
         let report = record.change(Handle { capacity: 1, length: 2 }, Create(capacity));
@@ -171,7 +172,7 @@ fn counters_changed() {
 }
 
 /// Turns a stroke: what is told, and which counters change by one.
-fn counters_changed_by(pair: &mut Pair, p: usize) {
+fn counters_changed_by(pair: &mut Pair, p: u64) {
     let before = pair.record.counters().to_vec();
     let (bit, number) = pair.change(Flip(p)).told.unwrap();
     let after = pair.record.counters();
@@ -186,7 +187,7 @@ fn counters_changed_by(pair: &mut Pair, p: usize) {
 
 fn random_change(random: &mut Random, h: Handle) -> Change {
     let Handle { capacity, length } = h;
-    let v = random.below(2) as u64;
+    let v = random.number_below(2);
     let [mut a, mut b] = [0, 0].map(|_| place(random, length + 1));
     if a > b {
         (a, b) = (b, a);
@@ -195,15 +196,15 @@ fn random_change(random: &mut Random, h: Handle) -> Change {
         0..=79 => Push(v),
         80..=139 if length > 0 => Flip(place(random, length)),
         140..=149 => Fill(a, b, v),
-        150..=164 => Fill(a, (a + random.below(200)).min(length), v),
-        165..=179 => Truncate(length - random.below(70).min(length)),
+        150..=164 => Fill(a, (a + random.number_below(200)).min(length), v),
+        165..=179 => Truncate(length - random.number_below(70).min(length)),
         180 => Truncate(a),
         181 => Create(capacity),
         182..=184 => Push(BAD_VALUES[random.below(BAD_VALUES.len())]),
-        185..=187 => Flip(length + random.below(3)),
-        188..=190 => Fill(b + 1 + random.below(3), b, v),
-        191..=193 => Fill(a, length + 1 + random.below(3), v),
-        194..=196 => Truncate(length + 1 + random.below(3)),
+        185..=187 => Flip(length + random.number_below(3)),
+        188..=190 => Fill(b + 1 + random.number_below(3), b, v),
+        191..=193 => Fill(a, length + 1 + random.number_below(3), v),
+        194..=196 => Truncate(length + 1 + random.number_below(3)),
         197 => Create([0, 511, capacity + 1, LARGEST + 512][random.below(4)]),
         198 => Create(if capacity == 512 { 1024 } else { 512 }),
         _ => Flip(FAR[random.below(FAR.len())]),
@@ -211,7 +212,7 @@ fn random_change(random: &mut Random, h: Handle) -> Change {
 }
 
 fn random_reading(random: &mut Random, h: Handle) -> Reading {
-    let v = random.below(2) as u64;
+    let v = random.number_below(2);
     match random.below(20) {
         0 => Rank(BAD_VALUES[random.below(BAD_VALUES.len())], h.length),
         1 => Rank(v, h.length + 1),
@@ -220,7 +221,7 @@ fn random_reading(random: &mut Random, h: Handle) -> Reading {
         4 => Select(v, FAR[random.below(FAR.len())]),
         5 => Verify,
         6..=11 => Rank(v, place(random, h.length + 1)),
-        _ => Select(v, random.below(h.length / 2 + 2)),
+        _ => Select(v, random.number_below(h.length / 2 + 2)),
     }
 }
 
@@ -262,7 +263,7 @@ fn edits() {
 }
 
 /// A list of edits from a strip of this length.
-fn edits_at(cases: &mut Cases, capacity: usize, length: usize) {
+fn edits_at(cases: &mut Cases, capacity: u64, length: u64) {
     cases.run(|random| {
         let bits = random.bits(length, 500);
         drive(random, &mut Pair::new(capacity, bits), 150, 10);
@@ -288,14 +289,14 @@ fn edits_at_three_levels() {
 #[test]
 fn edits_at_the_largest() {
     Cases::new("record", "edits_at_the_largest", 25).run(|random| {
-        let words: Vec<u64> = (0..LARGEST / 64).map(|_| random.number()).collect();
+        let words: Vec<u64> = (0..word_count(LARGEST)).map(|_| random.number()).collect();
         let mut pair = Pair::new(LARGEST, model::bits_of(&words));
         assert_eq!(pair.change(Push(1)).told, Err(Full));
         for p in [0, LARGEST / 2, LARGEST - 1] {
             pair.change(Flip(p));
         }
         for v in [0, 1] {
-            let number = pair.read(Rank(v, LARGEST)).unwrap() as usize;
+            let number = pair.read(Rank(v, LARGEST)).unwrap();
             pair.read(Select(v, 0)).unwrap();
             pair.read(Select(v, number - 1)).unwrap();
             assert_eq!(pair.read(Select(v, number)), Err(NotFound));
@@ -312,7 +313,7 @@ fn full(pair: &mut Pair) {
     let h = pair.handle();
     assert_eq!(h.length, h.capacity);
     for v in [0, 1] {
-        let number = pair.read(Rank(v, h.length)).unwrap() as usize;
+        let number = pair.read(Rank(v, h.length)).unwrap();
         pair.read(Rank(v, h.length - 1)).unwrap();
         assert_eq!(pair.read(Select(v, number)), Err(NotFound));
         if number > 0 {
@@ -348,14 +349,14 @@ fn push_until_full() {
     let mut cases = Cases::new("record", "push_until_full", 32);
     for capacity in [512, ONE_LEVEL, TWO_LEVELS, TWO_LEVELS_FULL] {
         cases.run(|random| {
-            let mut record = Record::new(&vec![u64::MAX; capacity / 64], &vec![7; counter_count(capacity)]);
+            let mut record = Record::new(&vec![u64::MAX; word_count(capacity)], &vec![7; counter_count(capacity)]);
             let mut strip = Strip::new(capacity, Vec::new());
             let mut h = record.change(strip.handle(), Create(capacity)).handle;
             for p in 0..capacity {
-                at_call(p);
+                at_call(p as usize);
                 let bit = random.below(2) == 1;
                 let report = record.change(h, Push(u64::from(bit)));
-                assert_eq!(report.told.map(|(position, _)| position), Ok(p as u64));
+                assert_eq!(report.told.map(|(position, _)| position), Ok(p));
                 h = report.handle;
                 strip.bits.push(bit);
                 assert_eq!(h, strip.handle());
@@ -372,7 +373,7 @@ fn every_position() {
     for capacity in [512, 4608, TWO_LEVELS] {
         for share in [2, 500, 998] {
             cases.run(|random| {
-                let length = capacity - random.below(40);
+                let length = capacity - random.number_below(40);
                 read_all(&mut Pair::new(capacity, random.bits(length, share)));
             });
         }
@@ -384,17 +385,17 @@ fn read_all(pair: &mut Pair) {
     let h = pair.handle();
     let mut seen = [0; 2];
     for p in 0..=h.length {
-        for (v, count) in seen.into_iter().enumerate() {
-            assert_eq!(pair.record.read(h, Rank(v as u64, p)), Ok(count));
+        for (v, count) in (0..).zip(seen) {
+            assert_eq!(pair.record.read(h, Rank(v, p)), Ok(count));
         }
         if p < h.length {
-            let v = usize::from(pair.strip.bits[p]);
-            assert_eq!(pair.record.read(h, Select(v as u64, seen[v] as usize)), Ok(p as u64));
+            let v = usize::from(pair.strip.bits[p as usize]);
+            assert_eq!(pair.record.read(h, Select(v as u64, seen[v])), Ok(p));
             seen[v] += 1;
         }
     }
-    for (v, count) in seen.into_iter().enumerate() {
-        assert_eq!(pair.read(Select(v as u64, count as usize)), Err(NotFound));
+    for (v, count) in (0..).zip(seen) {
+        assert_eq!(pair.read(Select(v, count)), Err(NotFound));
     }
 }
 
@@ -436,7 +437,7 @@ fn bad_handles() {
     for (words, counters) in [(0, 0), (8, 72), (16, 72), (8, 0), (9, 71)] {
         let mut record = Record::new(&vec![u64::MAX; words], &vec![3; counters]);
         for capacity in BAD_CAPACITIES {
-            for length in [0, 1, capacity, usize::MAX] {
+            for length in [0, 1, capacity, u64::MAX] {
                 all_refused(&mut record, Handle { capacity, length }, BadHandle);
             }
             change_refused(&mut record, Handle { capacity: 512, length: 0 }, Create(capacity), BadHandle);
@@ -452,7 +453,7 @@ fn bad_handles() {
 #[test]
 fn wrong_sizes() {
     for capacity in [512, 1024, ONE_LEVEL, TWO_LEVELS] {
-        let (words, counters) = (capacity / 64, counter_count(capacity));
+        let (words, counters) = (word_count(capacity), counter_count(capacity));
         for length in [0, 1, capacity] {
             let h = Handle { capacity, length };
             for wrong in [0, 1, words - 1, words + 1, 2 * words] {
@@ -469,7 +470,7 @@ fn wrong_sizes() {
             }
         }
     }
-    let mut record = Record::new(&vec![u64::MAX; LARGEST / 64], &vec![3; counter_count(LARGEST) - 72]);
+    let mut record = Record::new(&vec![u64::MAX; word_count(LARGEST)], &vec![3; counter_count(LARGEST) - 72]);
     let h = Handle { capacity: LARGEST, length: 5 };
     reading_refused(&mut record, h, Verify, CounterCount);
     reading_refused(&mut record, h, Rank(2, 6), CounterCount);
@@ -478,8 +479,8 @@ fn wrong_sizes() {
 }
 
 /// A record of ones under capacity 1024 with some of these faults: its handle, its words, its counters.
-fn faulty([handle, words, counters]: [bool; 3], length: usize) -> (Record, Handle) {
-    let strip = Strip::new(1024, vec![true; length]);
+fn faulty([handle, words, counters]: [bool; 3], length: u64) -> (Record, Handle) {
+    let strip = Strip::new(1024, vec![true; length as usize]);
     let (mut packed_words, mut built_counters) = (strip.words(), strip.counters());
     packed_words.resize(if words { 15 } else { 16 }, 0);
     built_counters.resize(if counters { 73 } else { 72 }, 0);
@@ -495,7 +496,7 @@ fn first_refusal_wins() {
         let lent = [has(0), has(1), has(2)];
         let common = [(lent[0], BadHandle), (lent[1], WordCount), (lent[2], CounterCount)];
         let first = |own: &[(bool, Refusal)]| common.iter().chain(own).find(|(applies, _)| *applies).map(|(_, r)| *r);
-        let changes = |length: usize, change: Change, own: &[(bool, Refusal)]| {
+        let changes = |length: u64, change: Change, own: &[(bool, Refusal)]| {
             let (mut record, h) = faulty(lent, length);
             match first(own) {
                 Some(refusal) => change_refused(&mut record, h, change, refusal),
@@ -512,7 +513,7 @@ fn first_refusal_wins() {
         let (x, y, z) = (has(3), has(4), has(5));
         let v = if x { 2 } else { 1 };
         // a position past the length also where the length is 1025
-        let past = |p: usize, far: bool| if far { 1026 } else { p };
+        let past = |p: u64, far: bool| if far { 1026 } else { p };
         changes(if y { 1024 } else { 700 }, Push(v), &[(x, BadValue), (y, Full)]);
         changes(700, Flip(past(699, x)), &[(x, Position)]);
         let b = past(300, z);
@@ -538,7 +539,7 @@ fn refusals_of_a_full_strip() {
     change_refused(&mut pair.record, h, Fill(9, 3, 1), Span);
     change_refused(&mut pair.record, h, Fill(700, 600, 1), Span);
     change_refused(&mut pair.record, h, Fill(600, 700, 1), Position);
-    change_refused(&mut pair.record, h, Fill(usize::MAX, usize::MAX, 1), Position);
+    change_refused(&mut pair.record, h, Fill(u64::MAX, u64::MAX, 1), Position);
     // at the length: count and cut take it, turn does not
     assert_eq!(pair.read(Rank(1, 512)), Ok(512));
     assert_eq!(pair.read(Rank(1, 513)), Err(Position));
@@ -567,14 +568,14 @@ fn short_out() {
 /// The strip of a record: the bits below the length.
 fn strip_of(record: &Record, h: Handle) -> Strip {
     let mut bits = model::bits_of(record.words());
-    bits.truncate(h.length);
+    bits.truncate(h.length as usize);
     Strip::new(h.capacity, bits)
 }
 
 /// The record fits, by its definition: zeros past the length, and every counter as defined for the words.
 fn fits(record: &Record, h: Handle) -> bool {
     let bits = model::bits_of(record.words());
-    bits[h.length..].iter().all(|b| !b) && record.counters() == model::counters_of(h.capacity, &bits)
+    bits[h.length as usize..].iter().all(|b| !b) && record.counters() == model::counters_of(h.capacity, &bits)
 }
 
 /// Adds or turns on any record: 9 and nothing changed, or no bit but the stroke's and no counter that does not count it.
@@ -585,9 +586,9 @@ fn near(record: &Record, h: Handle, change: Change) {
         assert!(copy.words() == record.words() && copy.counters() == record.counters());
         return;
     }
-    let bit = |p: usize| record.words()[p / 64] / 2u64.pow(p as u32 % 64) % 2;
+    let bit = |p: u64| record.words()[p as usize / 64] / 2u64.pow(p as u32 % 64) % 2;
     let (p, b, first, length) = match change {
-        Push(v) => (h.length, v, h.length as u64, h.length + 1),
+        Push(v) => (h.length, v, h.length, h.length + 1),
         Flip(i) => (i, 1 - bit(i), 1 - bit(i), h.length),
         _ => unreachable!(),
     };
@@ -596,7 +597,8 @@ fn near(record: &Record, h: Handle, change: Change) {
     assert!(number <= 45);
     let mut words = record.words().to_vec();
     let weight = 2u64.pow(p as u32 % 64);
-    words[p / 64] = words[p / 64] - bit(p) * weight + b * weight;
+    let word = &mut words[p as usize / 64];
+    *word = *word - bit(p) * weight + b * weight;
     assert!(copy.words() == words, "{change:?} under {h:?}");
     let counting = model::counting(h.capacity, p);
     for x in 0..copy.counters().len() {
@@ -610,8 +612,8 @@ fn any_reading(record: &mut Record, h: Handle, reading: Reading, fit: bool) {
     let told = record.read(h, reading);
     let allowed = match (reading, told) {
         (_, Err(Unfit)) => !fit,
-        (Rank(_, i), Ok(count)) => count <= i as u64,
-        (Select(..), Ok(position)) => position < h.length as u64,
+        (Rank(_, i), Ok(count)) => count <= i,
+        (Select(..), Ok(position)) => position < h.length,
         (Select(..), Err(NotFound)) => true,
         _ => false,
     };
@@ -672,8 +674,8 @@ fn damage(kind: usize, random: &mut Random, record: &mut Record, h: Handle) -> H
     match kind {
         // a bit past the length, where there is room
         0 if h.length < h.capacity => {
-            let p = h.length + random.below(h.capacity - h.length);
-            record.words_mut()[p / 64] |= 1 << (p % 64);
+            let p = h.length + random.number_below(h.capacity - h.length);
+            record.words_mut()[p as usize / 64] |= 1 << (p % 64);
         }
         1 => record.counters_mut()[x] = record.counters()[x].wrapping_add(1),
         2 => record.counters_mut()[x] = record.counters()[x].wrapping_sub(1),
@@ -682,8 +684,8 @@ fn damage(kind: usize, random: &mut Random, record: &mut Record, h: Handle) -> H
         5 => record.counters_mut().fill(u32::MAX),
         6 => record.counters_mut().fill(0),
         7 => record.words_mut().fill_with(|| random.number()),
-        8 => record.words_mut()[random.below(h.capacity / 64)] ^= 1 << random.below(64),
-        9 => return Handle { capacity: h.capacity, length: random.below(h.length + 1) },
+        8 => record.words_mut()[random.below(word_count(h.capacity))] ^= 1 << random.below(64),
+        9 => return Handle { capacity: h.capacity, length: random.number_below(h.length + 1) },
         10 => return Handle { capacity: h.capacity, length: h.capacity },
         _ => {}
     }
@@ -691,7 +693,7 @@ fn damage(kind: usize, random: &mut Random, record: &mut Record, h: Handle) -> H
 }
 
 /// A record of a damaged strip of this length, held to what every call owes.
-fn damaged(random: &mut Random, kind: usize, capacity: usize, length: usize, share: usize) {
+fn damaged(random: &mut Random, kind: usize, capacity: u64, length: u64, share: usize) {
     let Pair { strip, mut record } = Pair::new(capacity, random.bits(length, share));
     let h = damage(kind, random, &mut record, strip.handle());
     any_record(random, &mut record, h);
@@ -704,7 +706,7 @@ fn damaged_records() {
         for kind in 0..12 {
             for _ in 0..rounds {
                 cases.run(|random| {
-                    let length = capacity - random.below(capacity.min(2000));
+                    let length = capacity - random.number_below(capacity.min(2000));
                     let share = [1, 500, 999][random.below(3)];
                     damaged(random, kind, capacity, length, share);
                 });
@@ -719,7 +721,7 @@ fn damaged_records_at_three_levels() {
     let kinds = (0..12).flat_map(|kind| [(TWO_LEVELS_FULL, kind), (THREE_LEVELS, kind)]);
     for (capacity, kind) in kinds.chain([(LARGEST, 5)]) {
         cases.run(|random| {
-            let length = capacity - random.below(1000);
+            let length = capacity - random.number_below(1000);
             damaged(random, kind, capacity, length, 500);
         });
     }
@@ -741,9 +743,9 @@ fn every_counter_counts() {
             }
         }
         for p in h.length..h.capacity {
-            record.words_mut()[p / 64] ^= 1 << (p % 64);
+            record.words_mut()[p as usize / 64] ^= 1 << (p % 64);
             assert_eq!(record.read(h, Verify), Err(Unfit), "position {p}");
-            record.words_mut()[p / 64] ^= 1 << (p % 64);
+            record.words_mut()[p as usize / 64] ^= 1 << (p % 64);
         }
     });
 }

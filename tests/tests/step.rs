@@ -1,12 +1,15 @@
 //! One call of a script on any handle and any buffers: records that fit or not, images with sound chains or not, rows right
-//! or wrong. Where the outcome is fixed it is compared whole; where it is free it is held to its bounds.
+//! or wrong. Where the outcome is fixed it is compared whole; where it is free it is held to its bounds. Inspect and the
+//! queries are asked of the same images.
 use strip_tests::borders::{BAD_CAPACITIES, FAR, LARGEST, ONE_LEVEL, THREE_LEVELS, TWO_LEVELS, WIDE};
 use strip_tests::call::{Call, Opcode, CALLS, OPCODES};
 use strip_tests::cases::{at_call, Cases};
 use strip_tests::draw::{self, Scene};
+use strip_tests::image::inspect;
 use strip_tests::layout;
 use strip_tests::model::{self, Strip};
 use strip_tests::paper::Frozen;
+use strip_tests::query::QUERIES;
 use strip_tests::random::Random;
 use strip_tests::record::UNTOUCHED;
 use strip_tests::refusal::{values, Refusal, Values};
@@ -56,7 +59,7 @@ struct State {
 impl State {
     /// The strip under the handle: the first bits of the words.
     fn strip(&self) -> Strip {
-        let bits = (0..self.handle.length).map(|p| self.words[p / 64] >> (p % 64) & 1 == 1).collect();
+        let bits = (0..self.handle.length as usize).map(|p| self.words[p / 64] >> (p % 64) & 1 == 1).collect();
         Strip::new(self.handle.capacity, bits)
     }
 
@@ -88,7 +91,7 @@ impl State {
         let mut buffers = Buffers::new(&self.words, &self.counters, &self.image);
         let out = buffers.step(call, self.handle, 8);
         assert!(out[5..].iter().all(|number| *number == UNTOUCHED), "{call:?} wrote past the five numbers");
-        let handle = Handle { capacity: out[3] as usize, length: out[4] as usize };
+        let handle = Handle { capacity: out[3], length: out[4] };
         let (words, counters, image) =
             (buffers.words().to_vec(), buffers.counters().to_vec(), buffers.image().to_vec());
         (values(&out), State { handle, words, counters, image })
@@ -116,7 +119,7 @@ fn owed(before: &State, call: Call) -> Owed {
         Clear => layout::clear(&mut after.image).map(one),
         Freeze => {
             let bits = model::bits_of(&before.words);
-            layout::freeze(before.handle, &bits, &mut after.image, call.x as usize).map(one)
+            layout::freeze(before.handle, &bits, &mut after.image, call.x).map(one)
         }
         Inspect => layout::inspect(&before.image).map(one),
         RowRank | RowSelect | RowGet => on_row(before, call)?,
@@ -139,14 +142,14 @@ fn create(after: &mut State, call: Call) -> Values {
 
 /// A row reading: 10, 11, 14, its own; of a wrong row count and find are free, but for a k at or past its length.
 fn on_row(before: &State, call: Call) -> Option<Values> {
-    let row = match layout::row(&before.image, call.x as usize) {
+    let row = match layout::row(&before.image, call.x) {
         Ok(row) => row,
         Err(refusal) => return Some(Err(refusal)),
     };
     let told = model::on_row(&row.bits, call);
     let free = match call.opcode() {
         RowRank => told.is_ok(),
-        RowSelect => told != Err(BadValue) && call.z < row.bits.len() as u64,
+        RowSelect => told != Err(BadValue) && call.z < model::length(&row.bits),
         _ => false,
     };
     (row.right || !free).then_some(told)
@@ -160,7 +163,7 @@ fn on_strip(after: &mut State, call: Call) -> Option<Values> {
     let told = strip.step(after.sizes(), call);
     let free = match opcode {
         Push | Flip | Rank => told.is_ok(),
-        Select => told != Err(BadValue) && call.y < after.handle.length as u64,
+        Select => told != Err(BadValue) && call.y < after.handle.length,
         _ => false,
     };
     if (free || opcode == Verify) && !after.fits() {
@@ -180,12 +183,12 @@ fn within(before: &State, call: Call, told: Values, after: &State) -> bool {
         Push | Flip => after == before,
         Rank => after == before && (told == Err(Unfit) || below(call.y + 1)),
         Select => {
-            let length = before.handle.length as u64;
+            let length = before.handle.length;
             after == before && (told == Err(NotFound) || told == Err(Unfit) || below(length))
         }
         RowRank => after == before && (told == Err(WrongRow) || below(call.z + 1)),
         RowSelect => {
-            let length = layout::row(&before.image, call.x as usize).map_or(0, |row| row.bits.len() as u64);
+            let length = layout::row(&before.image, call.x).map_or(0, |row| model::length(&row.bits));
             after == before && (told == Err(NotFound) || told == Err(WrongRow) || below(length))
         }
         _ => false,
@@ -197,13 +200,14 @@ fn within(before: &State, call: Call, told: Values, after: &State) -> bool {
 fn near(before: &State, call: Call, told: Values, after: &State) -> bool {
     let Handle { capacity, length } = before.handle;
     let adds = call.opcode() == Push;
-    let p = if adds { length } else { call.x as usize };
+    let p = if adds { length } else { call.x };
+    let word = p as usize / 64;
     let weight = 1 << (p % 64);
-    let turned = before.words[p / 64] & weight == 0;
-    let (bit, first, grown) = if adds { (call.x == 1, length as u64, 1) } else { (turned, u64::from(turned), 0) };
+    let turned = before.words[word] & weight == 0;
+    let (bit, first, grown) = if adds { (call.x == 1, length, 1) } else { (turned, u64::from(turned), 0) };
     let handle = Handle { capacity, length: length + grown };
     let mut wanted = State { handle, counters: after.counters.clone(), ..before.clone() };
-    wanted.words[p / 64] = if bit { wanted.words[p / 64] | weight } else { wanted.words[p / 64] & !weight };
+    wanted.words[word] = if bit { wanted.words[word] | weight } else { wanted.words[word] & !weight };
     let counting = model::counting(capacity, p);
     let counted = |x: usize| after.counters[x] == before.counters[x] || counting.contains(&x);
     *after == wanted
@@ -224,8 +228,10 @@ impl Tallies {
         self.free.print(&format!("any state, {what}, free"));
     }
 
-    /// Asserts that with its outcome fixed each call told all that it can, and that each met what leaves it free.
+    /// Asserts that with its outcome fixed each call and query told all that it can, and that each call met what leaves it
+    /// free.
     fn finish(&self, what: &str) {
+        self.fixed.expect_queries(what);
         for opcode in OPCODES {
             self.fixed.expect(opcode, refusals(opcode), what);
             assert_eq!(self.free.made(opcode), can_be_free(opcode), "{what}: {} free", opcode.name());
@@ -256,8 +262,8 @@ fn hold(before: &State, call: Call, tally: &mut Tallies) -> State {
 // ---- damages
 
 /// A fitting record under a capacity, and an image with these rows.
-fn sound(random: &mut Random, capacity: usize, rows: &[(usize, usize, Vec<bool>)]) -> State {
-    let length = [0, capacity, capacity - random.below(70), random.below(capacity + 1)][random.below(4)];
+fn sound(random: &mut Random, capacity: u64, rows: &[(usize, u64, Vec<bool>)]) -> State {
+    let length = [0, capacity, capacity - random.number_below(70), random.number_below(capacity + 1)][random.below(4)];
     let share = [0, 3, 500, 997, 1000][random.below(5)];
     let bits = random.bits(length, share);
     let image = layout::image(rows, random.below(80));
@@ -272,10 +278,10 @@ fn damage_record(random: &mut Random, state: &mut State) {
         let x = random.below(state.counters.len());
         match random.below(10) {
             0..=2 if length < capacity => {
-                let p = length + random.below(capacity - length);
-                state.words[p / 64] ^= 1 << (p % 64);
+                let p = length + random.number_below(capacity - length);
+                state.words[p as usize / 64] ^= 1 << (p % 64);
             }
-            0..=2 => state.words[random.below(capacity / 64)] ^= 1 << random.below(64),
+            0..=2 => state.words[random.below(model::word_count(capacity))] ^= 1 << random.below(64),
             3 => state.words.fill_with(|| random.number()),
             4 => state.counters[x] = state.counters[x].wrapping_add(1),
             5 => state.counters[x] = state.counters[x].wrapping_sub(1),
@@ -301,7 +307,7 @@ fn damage_lengths(random: &mut Random, state: &mut State) {
             let all = [&[capacity + 1, WIDE + length][..], &FAR].concat();
             state.handle.length = all[random.below(all.len())];
         }
-        2 => state.handle.length = random.below(capacity + 1),
+        2 => state.handle.length = random.number_below(capacity + 1),
         3 => state.handle.capacity = [capacity + 512, 2 * capacity, TWO_LEVELS, LARGEST][random.below(4)],
         4 => state.words.resize([0, words - 1, words + 1, 2 * words][random.below(4)], 5),
         5 => state.counters.resize([0, counters - 1, counters + 1, counters + 72][random.below(4)], 5),
@@ -333,13 +339,13 @@ fn damage_image(random: &mut Random, image: &mut Vec<u8>) {
 fn damage_number(random: &mut Random, image: &mut [u8], at: usize) {
     let field = at + 4 * random.below(4);
     let was = layout::number(image, field);
-    let others = [was ^ 1 << random.below(32), was + 1, was.wrapping_sub(1), random.below(70)];
+    let others = [was ^ 1 << random.below(32), was + 1, was.wrapping_sub(1), random.number_below(70)];
     layout::store(image, field, others[random.below(4)]);
 }
 
 /// The row at a place: its ones, entries, bits or padding.
 fn damage_row(random: &mut Random, image: &mut [u8], at: usize) {
-    let length = layout::number(image, at + 8);
+    let length = layout::number(image, at + 8) as usize;
     let (entries, bits) = (16 * length.div_ceil(4096), 512 * length.div_ceil(4096));
     let start = at + 16 + entries;
     for _ in 0..1 + random.below(2) {
@@ -358,10 +364,10 @@ fn damage_row(random: &mut Random, image: &mut [u8], at: usize) {
 }
 
 /// Up to four rows with gaps; a label is seldom repeated or out of range.
-fn some_rows(random: &mut Random) -> Vec<(usize, usize, Vec<bool>)> {
+fn some_rows(random: &mut Random) -> Vec<(usize, u64, Vec<bool>)> {
     let mut rows = Vec::new();
-    for number in 0..random.below(5) {
-        let length = [0, 1 + random.below(700), 4096, random.below(9000)][random.below(4)];
+    for number in 0..random.number_below(5) {
+        let length = [0, 1 + random.number_below(700), 4096, random.number_below(9000)][random.below(4)];
         let share = [3, 500, 990][random.below(3)];
         let label = if random.below(40) == 0 { [0, 65, 3][random.below(3)] } else { 3 + 15 * number };
         rows.push((random.below(3), label, random.bits(length, share)));
@@ -370,7 +376,7 @@ fn some_rows(random: &mut Random) -> Vec<(usize, usize, Vec<bool>)> {
 }
 
 /// A state: a fitting record and an image of rows, mostly damaged; and the rows that were written.
-fn some_state(random: &mut Random, capacity: usize) -> (State, Vec<Frozen>) {
+fn some_state(random: &mut Random, capacity: u64) -> (State, Vec<Frozen>) {
     let rows = some_rows(random);
     let mut state = sound(random, capacity, &rows);
     if random.below(4) > 0 {
@@ -382,16 +388,28 @@ fn some_state(random: &mut Random, capacity: usize) -> (State, Vec<Frozen>) {
     if random.below(4) == 0 {
         damage_lengths(random, &mut state);
     }
-    (state, rows.into_iter().map(|(_, label, bits)| (label as u64, bits)).collect())
+    (state, rows.into_iter().map(|(_, label, bits)| (label, bits)).collect())
 }
 
-/// A walk of calls from a state: at times the next call goes on with what the one before left.
-fn walk(random: &mut Random, capacity: usize, steps: usize, tally: &mut Tallies) {
+/// Inspect, and each query twice, of drawn arguments, on an image in which these rows were written.
+fn ask(random: &mut Random, (capacity, image): (u64, &[u8]), rows: &[Frozen], tally: &mut Tallies) {
+    assert_eq!(inspect(image), layout::inspect(image));
+    let scene = Scene { capacity, strip: &[], rows };
+    for query in [QUERIES, QUERIES].concat() {
+        let query = draw::query(random, query, &scene);
+        tally.fixed.note_query(query, query.compare(image));
+    }
+}
+
+/// A walk of calls from a state: at times the next call goes on with what the one before left. Inspect and the
+/// queries are asked of the first image and of the last.
+fn walk(random: &mut Random, capacity: u64, steps: usize, tally: &mut Tallies) {
     let (mut state, rows) = some_state(random, capacity);
+    let first = state.image.clone();
     for number in 0..steps {
         at_call(number);
         let strip = if state.check(false).is_ok() { state.strip().bits } else { Vec::new() };
-        let scene = Scene { capacity: state.handle.capacity as u64, strip: &strip, rows: &rows };
+        let scene = Scene { capacity: state.handle.capacity, strip: &strip, rows: &rows };
         let opcode = OPCODES[random.below(CALLS)];
         let call = draw::call(random, opcode, &scene);
         state.idle(call, random.below(5));
@@ -399,6 +417,9 @@ fn walk(random: &mut Random, capacity: usize, steps: usize, tally: &mut Tallies)
         if random.below(8) == 0 {
             state = after;
         }
+    }
+    for image in [&first, &state.image] {
+        ask(random, (capacity, image), &rows, tally);
     }
 }
 

@@ -17,36 +17,36 @@ struct Strip {
 }
 
 impl Strip {
-    fn new(length: usize, bits: Vec<bool>) -> Strip {
-        let handle = Handle { capacity: bits.len(), length };
+    fn new(length: u64, bits: Vec<bool>) -> Strip {
+        let handle = Handle { capacity: model::length(&bits), length };
         let lent = Lent::new(&model::words_of(&bits));
         Strip { handle, bits, lent }
     }
 
     /// `text` at the start, zeros past it.
-    fn from_text(capacity: usize, text: &str) -> Strip {
+    fn from_text(capacity: u64, text: &str) -> Strip {
         let mut bits: Vec<bool> = text.chars().map(|c| c == '1').collect();
-        let length = bits.len();
-        bits.resize(capacity, false);
+        let length = model::length(&bits);
+        bits.resize(capacity as usize, false);
         Strip::new(length, bits)
     }
 
-    fn get(&mut self, i: usize) -> Answer {
+    fn get(&mut self, i: u64) -> Answer {
         self.lent.get(self.handle, i)
     }
 
-    fn successor(&mut self, v: u64, i: usize) -> Answer {
+    fn successor(&mut self, v: u64, i: u64) -> Answer {
         self.lent.successor(self.handle, v, i)
     }
 
-    fn predecessor(&mut self, v: u64, i: usize) -> Answer {
+    fn predecessor(&mut self, v: u64, i: u64) -> Answer {
         self.lent.predecessor(self.handle, v, i)
     }
 
     /// Compares look at i, and next and prior of v at i, with the model.
-    fn compare(&mut self, v: u64, i: usize) {
+    fn compare(&mut self, v: u64, i: u64) {
         let (h, count) = (self.handle, self.lent.count());
-        let bits = model::check(h, count, None).map(|()| &self.bits[..h.length]);
+        let bits = model::check(h, count, None).map(|()| &self.bits[..h.length as usize]);
         let looked = bits.and_then(|bits| model::get(bits, i));
         let next = bits.and_then(|bits| model::successor(bits, v, i));
         let prior = bits.and_then(|bits| model::predecessor(bits, v, i));
@@ -58,20 +58,20 @@ impl Strip {
 
 /// Positions at which a strip is read: around 0, the ends of words and blocks, the length and the capacity; far past;
 /// some at random.
-fn positions(random: &mut Random, h: Handle, at_random: usize) -> Vec<usize> {
+fn positions(random: &mut Random, h: Handle, at_random: usize) -> Vec<u64> {
     let mut list = FAR.to_vec();
     for edge in [0, 64, 512, h.length / 64 * 64, h.length, h.capacity] {
         list.push(edge.saturating_sub(2));
         list.extend(beside(edge));
     }
-    list.extend((0..at_random).map(|_| random.below(h.length + 2)));
+    list.extend((0..at_random).map(|_| random.number_below(h.length + 2)));
     list
 }
 
 #[test]
 fn strip_a() {
     let mut a = Strip::from_text(512, "01101101010101110");
-    for (i, bit) in [0, 1, 1, 0, 1, 1, 0, 1, 0, 1, 0, 1, 0, 1, 1, 1, 0].into_iter().enumerate() {
+    for (i, bit) in (0..).zip([0, 1, 1, 0, 1, 1, 0, 1, 0, 1, 0, 1, 0, 1, 1, 1, 0]) {
         assert_eq!(a.get(i), Ok(bit));
     }
     assert_eq!(a.get(17), Err(Position));
@@ -112,7 +112,7 @@ fn strip_a() {
         assert_eq!(a.predecessor(v, i), Err(n));
     }
     // A's ones, by the word select
-    for (k, p) in [1, 2, 4, 5, 7, 9, 11, 13, 14, 15, 64].into_iter().enumerate() {
+    for (k, p) in (0..).zip([1, 2, 4, 5, 7, 9, 11, 13, 14, 15, 64]) {
         assert_eq!(select_in_word(0xeab6, k), p);
     }
 }
@@ -139,7 +139,7 @@ fn strips() {
             for share in [0, 1, 20, 500, 980, 1000] {
                 for past in [0, 500, 1000] {
                     cases.run(|random| {
-                        let length = given.unwrap_or_else(|| random.below(capacity));
+                        let length = given.unwrap_or_else(|| random.number_below(capacity));
                         let mut bits = random.bits(length, share);
                         bits.extend(random.bits(capacity - length, past));
                         let mut strip = Strip::new(length, bits);
@@ -179,10 +179,10 @@ fn single_stroke() {
     let capacity = 1024;
     for v in [0, 1] {
         for p in 0..capacity {
-            let mut bits = vec![v == 0; capacity];
-            bits[p] = v == 1;
+            let mut bits = vec![v == 0; capacity as usize];
+            bits[p as usize] = v == 1;
             let mut strip = Strip::new(capacity, bits);
-            let at = Ok(p as u64);
+            let at = Ok(p);
             assert_eq!(strip.get(p), Ok(v));
             for i in [0, p / 64 * 64, p] {
                 assert_eq!(strip.successor(v, i), at);
@@ -210,7 +210,7 @@ fn large_strip() {
     for given in [Some(capacity), Some(1 << 21), Some((1 << 21) - 63), None] {
         for share in [0, 1, 500, 1000] {
             cases.run(|random| {
-                let length = given.unwrap_or_else(|| random.below(capacity));
+                let length = given.unwrap_or_else(|| random.number_below(capacity));
                 let mut strip = Strip::new(length, random.bits(capacity, share));
                 for i in positions(random, strip.handle, 10) {
                     for v in [0, 1, 2] {
@@ -224,17 +224,17 @@ fn large_strip() {
 
 #[test]
 fn largest_strip() {
-    let mut bits = vec![false; LARGEST];
+    let mut bits = vec![false; LARGEST as usize];
     for p in [77, LARGEST / 2, LARGEST - 2] {
-        bits[p] = true;
+        bits[p as usize] = true;
     }
     let mut strip = Strip::new(LARGEST, bits);
     for i in [0, 77, 78, LARGEST / 2, LARGEST / 2 + 1, LARGEST - 1, LARGEST, LARGEST + 1] {
         strip.compare(1, i);
     }
-    assert_eq!(strip.successor(0, LARGEST - 2), Ok(LARGEST as u64 - 1));
+    assert_eq!(strip.successor(0, LARGEST - 2), Ok(LARGEST - 1));
     assert_eq!(strip.successor(1, LARGEST - 1), Err(NotFound));
-    assert_eq!(strip.predecessor(1, LARGEST - 2), Ok(LARGEST as u64 / 2));
+    assert_eq!(strip.predecessor(1, LARGEST - 2), Ok(LARGEST / 2));
     strip.handle.length = LARGEST - 2;
     assert_eq!(strip.successor(1, LARGEST / 2 + 1), Err(NotFound));
     assert_eq!(strip.get(LARGEST - 2), Err(Position));
@@ -257,7 +257,7 @@ fn bad_handles() {
     for count in [0, 4, 7, 8, 9, 12, 16] {
         let mut lent = Lent::new(&vec![u64::MAX; count]);
         for capacity in BAD_CAPACITIES {
-            for length in [0, 1, 512, capacity, usize::MAX] {
+            for length in [0, 1, 512, capacity, u64::MAX] {
                 all_refuse(&mut lent, Handle { capacity, length }, BadHandle);
             }
         }
@@ -272,7 +272,8 @@ fn bad_handles() {
 #[test]
 fn wrong_word_counts() {
     for capacity in [512, 1024, 4096, TWO_LEVELS] {
-        for count in [0, 1, capacity / 64 - 1, capacity / 64 + 1, capacity / 32, capacity] {
+        let words = model::word_count(capacity);
+        for count in [0, 1, words - 1, words + 1, 2 * words, 64 * words] {
             let mut lent = Lent::new(&vec![u64::MAX; count]);
             for length in [0, 1, capacity - 1, capacity] {
                 all_refuse(&mut lent, Handle { capacity, length }, WordCount);
@@ -293,7 +294,7 @@ fn first_refusal_wins() {
         let h = Handle { capacity: 1024, length };
         let mut lent = Lent::new(&vec![if absent { 0 } else { u64::MAX }; if words { 15 } else { 16 }]);
         let v = if value { 2 } else { 1 };
-        let i = length + usize::from(position);
+        let i = length + u64::from(position);
         let order =
             [(handle, BadHandle), (words, WordCount), (value, BadValue), (position, Position), (absent, NotFound)];
         let first = order.into_iter().find(|(has, _)| *has);
@@ -309,11 +310,11 @@ fn first_refusal_wins() {
 }
 
 /// The word select by the model: 64 where there are too few ones.
-fn selected(bits: &[bool], k: usize) -> usize {
-    model::select(bits, 1, k).map_or(64, |p| p as usize)
+fn selected(bits: &[bool], k: u64) -> u64 {
+    model::select(bits, 1, k).unwrap_or(64)
 }
 
-fn compare_select(x: u64, k: usize) {
+fn compare_select(x: u64, k: u64) {
     assert_eq!(select_in_word(x, k), selected(&model::bits_of(&[x]), k), "one {k} of {x:#x}");
 }
 
@@ -369,7 +370,7 @@ fn select_random_words() {
             compare_all_selects(x);
             compare_all_selects(x & y & z);
             compare_all_selects(x | y | z);
-            compare_select(x & y, random.below(70));
+            compare_select(x & y, random.number_below(70));
         });
     }
 }
