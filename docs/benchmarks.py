@@ -48,7 +48,7 @@ FUNCTIONS = {
     "run": ("strip_fill", "tree_fill"),
     "check": ("strip_verify", "tree_verify"),
     "freeze": ("image_freeze", "row_freeze"),
-    "inspect": ("strip_inspect", "row_inspect"),
+    "inspect": ("image_inspect", "row_inspect"),
     "row count": ("image_row_rank", "row_rank"),
     "row find": ("image_row_select", "row_select"),
 }

@@ -458,7 +458,7 @@ fn word_select(rounds: usize) {
             figures.extend(time(&places, PACE, |j| unsafe {
                 let (x, k) = queries[j];
                 if y == 0 {
-                    ffi::strip_select_in_word(x, k)
+                    ffi::strip_select_in_word(x, k as u64) as usize
                 } else {
                     tree_select_in_word(x, k)
                 }

@@ -19,7 +19,7 @@ import subprocess
 import sys
 
 # Calls that are made a hundredth as often.
-WHOLE = ("strip_fill", "tree_fill", "strip_verify", "tree_verify", "image_freeze", "row_freeze", "strip_inspect", "row_inspect")
+WHOLE = ("strip_fill", "tree_fill", "strip_verify", "tree_verify", "image_freeze", "row_freeze", "image_inspect", "row_inspect")
 
 
 def output(*command):

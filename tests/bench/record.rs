@@ -99,45 +99,52 @@ impl Record {
 
     pub fn rank(&self, v: u64, i: usize) -> usize {
         let (words, nw, counters, nc) = self.parts();
-        unsafe { strip_rank(self.bits, self.bits, words, nw, counters, nc, v, i) as usize }
+        let n = self.bits as u64;
+        unsafe { strip_rank(n, n, words, nw, counters, nc, v, i as u64) as usize }
     }
 
     pub fn select(&self, v: u64, k: usize) -> usize {
         let (words, nw, counters, nc) = self.parts();
-        unsafe { strip_select(self.bits, self.bits, words, nw, counters, nc, v, k) as usize }
+        let n = self.bits as u64;
+        unsafe { strip_select(n, n, words, nw, counters, nc, v, k as u64) as usize }
     }
 
     pub fn successor(&self, v: u64, i: usize) -> usize {
         let (words, nw, _, _) = self.parts();
-        unsafe { strip_successor(self.bits, self.bits, words, nw, v, i) as usize }
+        let n = self.bits as u64;
+        unsafe { strip_successor(n, n, words, nw, v, i as u64) as usize }
     }
 
     pub fn verify(&self) -> usize {
         let (words, nw, counters, nc) = self.parts();
-        unsafe { strip_verify(self.bits, self.bits, words, nw, counters, nc) as usize }
+        let n = self.bits as u64;
+        unsafe { strip_verify(n, n, words, nw, counters, nc) as usize }
     }
 
     pub fn push(&mut self, length: usize, v: u64) -> usize {
         let (words, nw, counters, nc, out) = self.lend();
-        unsafe { strip_push(self.bits, length, words, nw, counters, nc, v, out, 5) }
+        unsafe { strip_push(self.bits as u64, length as u64, words, nw, counters, nc, v, out, 5) }
         self.out[2] as usize
     }
 
     pub fn flip(&mut self, i: usize) -> usize {
+        let n = self.bits as u64;
         let (words, nw, counters, nc, out) = self.lend();
-        unsafe { strip_flip(self.bits, self.bits, words, nw, counters, nc, i, out, 5) }
+        unsafe { strip_flip(n, n, words, nw, counters, nc, i as u64, out, 5) }
         self.out[2] as usize
     }
 
     pub fn fill(&mut self, a: usize, b: usize, v: u64) -> usize {
+        let n = self.bits as u64;
         let (words, nw, counters, nc, out) = self.lend();
-        unsafe { strip_fill(self.bits, self.bits, words, nw, counters, nc, a, b, v, out, 5) }
+        unsafe { strip_fill(n, n, words, nw, counters, nc, a as u64, b as u64, v, out, 5) }
         self.out[1] as usize
     }
 
     pub fn truncate(&mut self, n: usize) {
+        let bits = self.bits as u64;
         let (words, nw, counters, nc, out) = self.lend();
-        unsafe { strip_truncate(self.bits, self.bits, words, nw, counters, nc, n, out, 5) }
+        unsafe { strip_truncate(bits, bits, words, nw, counters, nc, n as u64, out, 5) }
     }
 
     pub fn tree_rank(&self, i: usize) -> usize {

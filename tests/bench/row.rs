@@ -1,17 +1,14 @@
 //! An image of one row: the library's calls on it, and those of row.cpp.
-use crate::ffi::{image_clear, image_freeze, image_row_rank, image_row_select};
+use crate::ffi::{image_clear, image_freeze, image_inspect, image_row_rank, image_row_select};
 
 extern "C" {
-    // libdisplay.a
-    fn strip_inspect(image: *const u8, size: usize) -> u64;
-    // row.cpp
     fn row_freeze(words: *const u64, count: usize, image: *mut u8, label: u32);
     fn row_inspect(record: *const u8) -> bool;
     fn row_rank(record: *const u8, length: usize, i: usize) -> usize;
     fn row_select(record: *const u8, length: usize, k: usize) -> usize;
 }
 
-const LABEL: usize = 7;
+const LABEL: u64 = 7;
 
 pub struct Row {
     pub bits: usize,
@@ -41,10 +38,10 @@ impl Row {
     }
 
     pub fn freeze(&mut self, words: &[u64]) -> usize {
-        let (image, size) = (self.image.as_mut_ptr(), self.image.len());
+        let (image, size, n) = (self.image.as_mut_ptr(), self.image.len(), self.bits as u64);
         unsafe {
             image_clear(image, size);
-            image_freeze(self.bits, self.bits, words.as_ptr(), words.len(), image, size, LABEL) as usize
+            image_freeze(n, n, words.as_ptr(), words.len(), image, size, LABEL) as usize
         }
     }
 
@@ -57,15 +54,15 @@ impl Row {
     }
 
     pub fn inspect(&self) -> usize {
-        unsafe { strip_inspect(self.image.as_ptr(), self.image.len()) as usize }
+        unsafe { image_inspect(self.image.as_ptr(), self.image.len()) as usize }
     }
 
     pub fn rank(&self, i: usize) -> usize {
-        unsafe { image_row_rank(self.image.as_ptr(), self.image.len(), LABEL, 1, i) as usize }
+        unsafe { image_row_rank(self.image.as_ptr(), self.image.len(), LABEL, 1, i as u64) as usize }
     }
 
     pub fn select(&self, k: usize) -> usize {
-        unsafe { image_row_select(self.image.as_ptr(), self.image.len(), LABEL, 1, k) as usize }
+        unsafe { image_row_select(self.image.as_ptr(), self.image.len(), LABEL, 1, k as u64) as usize }
     }
 
     pub fn tree_freeze(&mut self, words: &[u64]) -> usize {
