@@ -3,5 +3,6 @@ mod dispatch;
 mod runner;
 
 // Open to users: no `requires`, and a promise for every input.
+pub use dispatch::Reply;
 pub use dispatch::step;
 pub use runner::execute;
