@@ -1,8 +1,9 @@
 /* Fixed cases of the calls on a record, called from C. */
-#include "testing.h"
+#include "strips.h"
 
-#include "../common/borders.h"
-#include "../common/expect.h"
+#include "borders.h"
+#include "expect.h"
+#include "judge.h"
 
 #include <stdlib.h>
 #include <string.h>
@@ -13,10 +14,12 @@ static const char a[] = "01101101010101110";
 /* A record, the handle to go on with, and the last five numbers, with one past them. */
 static uint64_t *words;
 static uint32_t *counters;
-static size_t word_count, counter_count, capacity, length;
-static uint64_t out[6];
+static size_t words_len, counters_len;
+static uint64_t capacity, length, out[STRIP_OUT + 1];
 
-#define RECORD words, word_count, counters, counter_count
+#define HANDLE capacity, length
+#define RECORD words, words_len, counters, counters_len
+#define OUT out, STRIP_OUT
 
 /* After a change: the handle that it gives, unless laying gave none; the value asked for, or the refusal. */
 static uint64_t changed(int value)
@@ -25,47 +28,67 @@ static uint64_t changed(int value)
         capacity = out[3];
         length = out[4];
     }
-    expect("the number past the fifth", out[5], 77);
+    expect("the number past the fifth", out[STRIP_OUT], 77);
     return out[0] != 0 ? REFUSED(out[0]) : out[value];
 }
 
 /* The two values of a change by numbers 1 and 2. */
-static uint64_t create(size_t c, int value) { strip_create(c, RECORD, out, 5); return changed(value); }
-static uint64_t push(uint64_t v, int value) { strip_push(capacity, length, RECORD, v, out, 5); return changed(value); }
-static uint64_t flip(size_t i, int value) { strip_flip(capacity, length, RECORD, i, out, 5); return changed(value); }
-static uint64_t fill(size_t x, size_t y, uint64_t v) { strip_fill(capacity, length, RECORD, x, y, v, out, 5); return changed(1); }
-static uint64_t truncate_to(size_t n) { strip_truncate(capacity, length, RECORD, n, out, 5); return changed(1); }
-static uint64_t rank_of(uint64_t v, size_t i) { return strip_rank(capacity, length, RECORD, v, i); }
-static uint64_t select_of(uint64_t v, size_t k) { return strip_select(capacity, length, RECORD, v, k); }
-static uint64_t verify(void) { return strip_verify(capacity, length, RECORD); }
+static uint64_t create(uint64_t c, int value) { strip_create(c, RECORD, OUT); return changed(value); }
+static uint64_t push(uint64_t v, int value) { strip_push(HANDLE, RECORD, v, OUT); return changed(value); }
+static uint64_t flip(uint64_t i, int value) { strip_flip(HANDLE, RECORD, i, OUT); return changed(value); }
+static uint64_t truncate_to(uint64_t n) { strip_truncate(HANDLE, RECORD, n, OUT); return changed(1); }
+static uint64_t rank_of(uint64_t v, uint64_t i) { return strip_rank(HANDLE, RECORD, v, i); }
+static uint64_t select_of(uint64_t v, uint64_t k) { return strip_select(HANDLE, RECORD, v, k); }
+static uint64_t verify(void) { return strip_verify(HANDLE, RECORD); }
+
+static uint64_t fill(uint64_t from, uint64_t to, uint64_t v)
+{
+    strip_fill(HANDLE, RECORD, from, to, v, OUT);
+    return changed(1);
+}
 
 /* Room for a record of that capacity with so many counters, full of junk. */
-static void room(size_t c, size_t n)
+static void room(uint64_t c, size_t n)
 {
     free(words);
     free(counters);
-    word_count = c / 64;
-    counter_count = n;
-    words = malloc(word_count * sizeof *words);
-    counters = malloc(counter_count * sizeof *counters);
+    words_len = c / 64;
+    counters_len = n;
+    words = malloc(words_len * sizeof *words);
+    counters = malloc(counters_len * sizeof *counters);
     if (words == NULL || counters == NULL)
         exit(2);
-    memset(words, 0xa5, word_count * sizeof *words);
-    memset(counters, 0x5a, counter_count * sizeof *counters);
-    out[5] = 77;
+    memset(words, 0xa5, words_len * sizeof *words);
+    memset(counters, 0x5a, counters_len * sizeof *counters);
+    out[STRIP_OUT] = 77;
 }
 
 /* A full strip of ones: the length is the capacity, and an empty span lays the counters. */
-static void full_strip(size_t c, size_t n)
+static void full_strip(uint64_t c, size_t n)
 {
     room(c, n);
-    memset(words, 0xff, word_count * sizeof *words);
+    memset(words, 0xff, words_len * sizeof *words);
     capacity = length = c;
     EXPECT(fill(0, 0, 0), c);
 }
 
+/* The number of counters: at each capacity of one and two levels, around the largest, and refused. */
+static void count_counters(void)
+{
+    for (size_t k = 0; k < COUNT_OF(capacities); k++)
+        EXPECT(strip_counter_count(capacities[k][0]), capacities[k][1]);
+    for (uint64_t c = 512; c <= THREE_LEVELS + 512; c += 512)
+        EXPECT(strip_counter_count(c), counter_count_answer(c));
+    for (uint64_t c = LARGEST - 70000; c <= LARGEST + 70000; c += 8)
+        EXPECT(strip_counter_count(c), counter_count_answer(c));
+    for (size_t k = 0; k < COUNT_OF(bad_capacities); k++)
+        EXPECT(strip_counter_count(bad_capacities[k]), REFUSED(STRIP_BAD_HANDLE));
+}
+
 int main(void)
 {
+    count_counters();
+
     /* strip A, stroke by stroke; P1, P2, P4, P5 */
     room(512, 72);
     EXPECT(create(512, 1), 72);
@@ -77,9 +100,9 @@ int main(void)
     EXPECT(rank_of(1, 7), 4);
     EXPECT(select_of(1, 7), 13);
     EXPECT(rank_of(1, 17), 10);
-    EXPECT(rank_of(1, 18), REFUSED(POSITION));
+    EXPECT(rank_of(1, 18), REFUSED(STRIP_POSITION));
     EXPECT(select_of(1, 9), 15);
-    EXPECT(select_of(1, 10), REFUSED(NOT_FOUND));
+    EXPECT(select_of(1, 10), REFUSED(STRIP_NOT_FOUND));
     EXPECT(rank_of(0, 17), 7);
     EXPECT(select_of(0, 6), 16);
     EXPECT(verify(), 10);
@@ -99,47 +122,47 @@ int main(void)
     EXPECT(verify(), 3);
 
     /* refusals in order: they give back the handle, and two numbers 0 */
-    EXPECT(push(2, 1), REFUSED(BAD_VALUE));
-    EXPECT(fill(9, 3, 2), REFUSED(BAD_VALUE));
-    EXPECT(fill(14, 13, 1), REFUSED(SPAN));
-    EXPECT(fill(3, 13, 1), REFUSED(POSITION));
-    EXPECT(flip(12, 1), REFUSED(POSITION));
-    EXPECT(truncate_to(13), REFUSED(POSITION));
+    EXPECT(push(2, 1), REFUSED(STRIP_BAD_VALUE));
+    EXPECT(fill(9, 3, 2), REFUSED(STRIP_BAD_VALUE));
+    EXPECT(fill(14, 13, 1), REFUSED(STRIP_SPAN));
+    EXPECT(fill(3, 13, 1), REFUSED(STRIP_POSITION));
+    EXPECT(flip(12, 1), REFUSED(STRIP_POSITION));
+    EXPECT(truncate_to(13), REFUSED(STRIP_POSITION));
     EXPECT(out[1] + out[2], 0);
     EXPECT(out[3], 512);
     EXPECT(out[4], 12);
 
     /* a wrong counter is found, and an empty span lays it right */
     counters[40]++;
-    EXPECT(verify(), REFUSED(UNFIT));
+    EXPECT(verify(), REFUSED(STRIP_UNFIT));
     EXPECT(fill(12, 12, 1), 3);
     EXPECT(verify(), 3);
 
     /* P6; 1, 2, 3, and no handle; no buffers at all */
     EXPECT(create(512, 1), 72);
     EXPECT(rank_of(0, 0), 0);
-    EXPECT(select_of(0, 0), REFUSED(NOT_FOUND));
-    EXPECT(create(513, 1), REFUSED(BAD_HANDLE));
-    EXPECT(create(1024, 1), REFUSED(WORD_COUNT));
-    counter_count = 71;
-    EXPECT(create(512, 1), REFUSED(COUNTER_COUNT));
+    EXPECT(select_of(0, 0), REFUSED(STRIP_NOT_FOUND));
+    EXPECT(create(513, 1), REFUSED(STRIP_BAD_HANDLE));
+    EXPECT(create(1024, 1), REFUSED(STRIP_WORD_COUNT));
+    counters_len = 71;
+    EXPECT(create(512, 1), REFUSED(STRIP_COUNTER_COUNT));
     EXPECT(out[3] + out[4], 0);
-    counter_count = 72;
-    EXPECT(strip_rank(512, 0, NULL, 0, NULL, 0, 2, 1), REFUSED(WORD_COUNT));
-    EXPECT(strip_verify(0, 0, NULL, 0, NULL, 0), REFUSED(BAD_HANDLE));
+    counters_len = 72;
+    EXPECT(strip_rank(512, 0, NULL, 0, NULL, 0, 2, 1), REFUSED(STRIP_WORD_COUNT));
+    EXPECT(strip_verify(0, 0, NULL, 0, NULL, 0), REFUSED(STRIP_BAD_HANDLE));
 
     /* too short an `out`, or none: nothing happens */
     EXPECT(push(1, 1), 0);
     out[0] = 5;
-    strip_push(512, 1, RECORD, 1, out, 4);
+    strip_push(512, 1, RECORD, 1, out, STRIP_OUT - 1);
     strip_create(512, RECORD, NULL, 0);
     EXPECT(out[0], 5);
     EXPECT(verify(), 1);
 
     /* P9, P10 */
     full_strip(ONE_LEVEL, 72);
-    EXPECT(push(1, 1), REFUSED(FULL));
-    EXPECT(push(2, 1), REFUSED(BAD_VALUE));
+    EXPECT(push(1, 1), REFUSED(STRIP_FULL));
+    EXPECT(push(2, 1), REFUSED(STRIP_BAD_VALUE));
     EXPECT(flip(32767, 2), 1);
     EXPECT(rank_of(1, 32768), 32767);
     full_strip(TWO_LEVELS, 216);

@@ -1,7 +1,6 @@
 /* Scripts and single steps from C: the examples of the scope document, a refused opening, answers too short. */
+#include "expect.h"
 #include "testing.h"
-
-#include "../common/expect.h"
 
 #include <string.h>
 
@@ -9,6 +8,8 @@ static uint64_t words[8];
 static uint32_t counters[72];
 static uint8_t image[560];
 static uint64_t answers[3 + 3 * 32];
+
+#define RECORD words, 8, counters, 72
 
 /* Strip A by 17 adds, then the calls after it. */
 static void strip_a(void)
@@ -24,14 +25,14 @@ static void strip_a(void)
         script[4 * i + 1] = (uint64_t)(bits[i] - '0');
     }
     memcpy(script + 4 * 17, calls, sizeof calls);
-    expect("calls", strip_execute(script, sizeof script / 8, 512, 0, words, 8, counters, 72, image, 560, answers, 3 + 3 * 32), 23);
+    expect("calls", strip_execute(script, sizeof script / 8, 512, 0, RECORD, image, 560, answers, 3 + 3 * 32), 23);
     expect("opening", answers[0], 0);
     expect("capacity", answers[1], 512);
     expect("length", answers[2], 17);
     const uint64_t *a = answers + 3 + 3 * 17;
     expect("count(1, 8)", a[1], 5);
     expect("find(1, 7)", a[4], 13);
-    expect("count(1, 18)", a[6], POSITION);
+    expect("count(1, 18)", a[6], STRIP_POSITION);
     expect("turn 3: the bit", a[10], 1);
     expect("turn 3: counters changed", a[11], 15);
     expect("check", a[13], 11);
@@ -43,28 +44,28 @@ static void strip_a(void)
 static void steps(void)
 {
     uint64_t out[5] = {0};
-    strip_step(OP_INSPECT, 0, 0, 0, 512, 17, words, 8, counters, 72, image, 560, out, 5);
+    strip_step(OP_INSPECT, 0, 0, 0, 512, 17, RECORD, image, 560, out, 5);
     expect("inspect", out[1], 1);
-    strip_step(OP_TRUNCATE, 5, 0, 0, 512, 17, words, 8, counters, 72, image, 560, out, 5);
+    strip_step(OP_TRUNCATE, 5, 0, 0, 512, 17, RECORD, image, 560, out, 5);
     expect("cut(5)", out[0], 0);
     expect("the handle's length", out[4], 5);
     counters[70] = 9;
-    strip_step(OP_VERIFY, 0, 0, 0, 512, 5, words, 8, counters, 72, image, 560, out, 5);
-    expect("check of a record that does not fit", out[0], UNFIT);
-    strip_step(OP_CREATE, 512, 0, 0, 512, 5, words, 8, counters, 72, image, 560, out, 4);
-    expect("too short an out", out[0], UNFIT);
+    strip_step(OP_VERIFY, 0, 0, 0, 512, 5, RECORD, image, 560, out, 5);
+    expect("check of a record that does not fit", out[0], STRIP_UNFIT);
+    strip_step(OP_CREATE, 512, 0, 0, 512, 5, RECORD, image, 560, out, 4);
+    expect("too short an out", out[0], STRIP_UNFIT);
 }
 
 int main(void)
 {
     strip_a();
     steps();
-    expect("answers too short", strip_execute(NULL, 0, 512, 0, words, 8, counters, 72, image, 560, answers, 2), UINT64_MAX);
+    expect("answers too short", strip_execute(NULL, 0, 512, 0, RECORD, image, 560, answers, 2), UINT64_MAX);
     answers[1] = 7;
-    expect("lay refused", strip_execute(NULL, 0, 513, 0, words, 8, counters, 72, image, 560, answers, 3), 0);
-    expect("its number", answers[0], BAD_HANDLE);
+    expect("lay refused", strip_execute(NULL, 0, 513, 0, RECORD, image, 560, answers, 3), 0);
+    expect("its number", answers[0], STRIP_BAD_HANDLE);
     expect("no other answer", answers[1], 7);
-    expect("clear refused first", strip_execute(NULL, 0, 513, 1, words, 8, counters, 72, image, 15, answers, 3), 0);
-    expect("its number", answers[0], NO_ROOM);
+    expect("clear refused first", strip_execute(NULL, 0, 513, 1, RECORD, image, 15, answers, 3), 0);
+    expect("its number", answers[0], STRIP_NO_ROOM);
     return failed;
 }

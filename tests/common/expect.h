@@ -11,8 +11,8 @@ static int failed = 0;
 
 static inline void print_answer(uint64_t answer)
 {
-    if (is_refused(answer) && answer - WIDE <= WRONG_ROW)
-        printf("refused %" PRIu64, answer - WIDE);
+    if (STRIP_REFUSED(answer) && answer <= REFUSED(STRIP_WRONG_ROW))
+        printf("refused %d", (int)STRIP_REFUSAL(answer));
     else
         printf("%" PRIu64, answer);
 }

@@ -1,18 +1,20 @@
-/* What calls may tell, by the scope document's definitions: the readings of a strip's words, and on an image the chain,
- * whether each row is right, clear, freeze, inspect, opening and the readings of rows. Nothing of the library's is used. */
+/* What calls may tell, by the scope document's definitions: the sizes, the readings of a strip's words, and on an image
+ * the chain, whether each row is right, clear, freeze, inspect, opening, the labels and lengths of rows, and their
+ * readings. Of the library's nothing is used but the refusals' numbers. */
 #ifndef JUDGE_H
 #define JUDGE_H
 
 #include "borders.h"
+#include "layout.h"
 #include "refusals.h"
 
 #include <stddef.h>
 #include <stdint.h>
-#include <string.h>
 
 enum { ROWS = 64 };
 
-/* A row: its record's place, label and length, its bits, and whether its ones, entries and padding are those of its bits. */
+/* A row: its record's place, label and length, its bits, and whether its ones, entries and padding are those of its
+ * bits. */
 struct row {
     uint64_t start, label, length;
     const uint8_t *bits;
@@ -25,79 +27,6 @@ struct judged {
     unsigned count;
     struct row rows[ROWS];
 };
-
-static inline uint64_t little_endian(const uint8_t *s, unsigned bytes)
-{
-    uint64_t number = 0;
-    for (unsigned b = bytes; b > 0; b--)
-        number = 256 * number + s[b - 1];
-    return number;
-}
-
-static inline uint64_t bit(const uint8_t *bits, uint64_t p)
-{
-    return bits[p / 8] >> (p % 8) & 1;
-}
-
-static inline uint64_t superblocks(uint64_t length)
-{
-    return (length + 4095) / 4096;
-}
-
-static inline uint64_t record_size(uint64_t length)
-{
-    return 16 + 528 * superblocks(length);
-}
-
-/* The number in so many bits of an entry, from a bit of it on. */
-static inline uint64_t field(const uint8_t *entry, unsigned from, unsigned width)
-{
-    uint64_t number = 0;
-    for (unsigned b = 0; b < width; b++)
-        number |= bit(entry, from + b) << b;
-    return number;
-}
-
-static inline uint64_t ones_of(const uint8_t *bytes, uint64_t count)
-{
-    uint64_t ones = 0, b = 0, eight;
-    for (; b + 8 <= count; b += 8) {
-        memcpy(&eight, bytes + b, 8);
-        ones += (uint64_t)__builtin_popcountll(eight);
-    }
-    for (; b < count; b++)
-        ones += (uint64_t)__builtin_popcountll(bytes[b]);
-    return ones;
-}
-
-/* Whether the entry is that of its superblock, of which `before` ones of the row come before. */
-static inline int entry_right(const uint8_t *entry, const uint8_t *bytes, uint64_t before)
-{
-    uint64_t within = 0;
-    if (field(entry, 0, 44) != before)
-        return 0;
-    for (unsigned j = 1; j < 8; j++) {
-        within += ones_of(bytes + 64 * (j - 1), 64);
-        if (field(entry, 44 + 12 * (j - 1), 12) != within)
-            return 0;
-    }
-    return 1;
-}
-
-static inline int row_right(const uint8_t *record)
-{
-    uint64_t length = little_endian(record + 8, 4), number = superblocks(length), ones = 0;
-    const uint8_t *bits = record + 16 + 16 * number;
-    for (uint64_t p = length; p < 4096 * number; p++)
-        if (bit(bits, p) != 0)
-            return 0;
-    for (uint64_t e = 0; e < number; e++) {
-        if (!entry_right(record + 16 + 16 * e, bits + 512 * e, ones))
-            return 0;
-        ones += ones_of(bits + 512 * e, 512);
-    }
-    return little_endian(record + 12, 4) == ones;
-}
 
 static inline const struct row *row_of(const struct judged *j, uint64_t label)
 {
@@ -131,7 +60,7 @@ static inline void judge(struct judged *j, const uint8_t *s, uint64_t n)
 {
     j->sound = 0;
     j->count = 0;
-    if (n < 16 || n > UINT64_C(1) << 32)
+    if (n < 16 || n > WIDE)
         return;
     if (little_endian(s + 4, 4) != 1 || little_endian(s + 8, 8) != 0)
         return;
@@ -146,20 +75,48 @@ static inline void judge(struct judged *j, const uint8_t *s, uint64_t n)
     j->sound = 1;
 }
 
-/* ---- clear, freeze, inspect */
+/* ---- sizes, clear, freeze, inspect */
+
+static inline int capacity_good(uint64_t capacity)
+{
+    return capacity % 512 == 0 && capacity >= 512 && capacity <= LARGEST;
+}
+
+/* How many counters a capacity needs: 72 for each node of each level. */
+static inline uint64_t counter_count_of(uint64_t capacity)
+{
+    uint64_t nodes = 0, children = capacity / 512;
+    do {
+        children = (children + 63) / 64;
+        nodes += children;
+    } while (children > 1);
+    return 72 * nodes;
+}
+
+/* The number of counters: 1, or as many as the capacity needs. */
+static inline uint64_t counter_count_answer(uint64_t capacity)
+{
+    return capacity_good(capacity) ? counter_count_of(capacity) : REFUSED(STRIP_BAD_HANDLE);
+}
+
+/* The size of a record: 4 where no row is so long, or its bytes. */
+static inline uint64_t record_size_answer(uint64_t length)
+{
+    return length > LARGEST ? REFUSED(STRIP_POSITION) : record_size(length);
+}
 
 /* clear: 13, or 16. */
 static inline uint64_t clear_answer(uint64_t size)
 {
-    return size < 16 || size > WIDE ? REFUSED(NO_ROOM) : 16;
+    return size < 16 || size > WIDE ? REFUSED(STRIP_NO_ROOM) : 16;
 }
 
 /* 1 and 2 of a call with so many words lent, or 0. */
-static inline uint64_t handle_refused(uint64_t capacity, uint64_t length, uint64_t word_count)
+static inline uint64_t handle_refused(uint64_t capacity, uint64_t length, uint64_t words_len)
 {
-    if (capacity % 512 != 0 || capacity < 512 || capacity > LARGEST || length > capacity)
-        return REFUSED(BAD_HANDLE);
-    return word_count != capacity / 64 ? REFUSED(WORD_COUNT) : 0;
+    if (!capacity_good(capacity) || length > capacity)
+        return REFUSED(STRIP_BAD_HANDLE);
+    return words_len != capacity / 64 ? REFUSED(STRIP_WORD_COUNT) : 0;
 }
 
 /* Where the next record starts: at the last one's end, or at unit 1. */
@@ -173,22 +130,22 @@ static inline uint64_t next_start(const struct judged *j)
 static inline uint64_t freeze_answer(const struct judged *j, uint64_t size, uint64_t length, uint64_t label)
 {
     if (!j->sound)
-        return REFUSED(UNSOUND);
+        return REFUSED(STRIP_UNSOUND);
     if (label < 1 || label > 64)
-        return REFUSED(BAD_LABEL);
+        return REFUSED(STRIP_BAD_LABEL);
     if (row_of(j, label) != NULL)
-        return REFUSED(LABEL_PRESENT);
-    return next_start(j) + record_size(length) > size ? REFUSED(NO_ROOM) : next_start(j) / 16;
+        return REFUSED(STRIP_LABEL_PRESENT);
+    return next_start(j) + record_size(length) > size ? REFUSED(STRIP_NO_ROOM) : next_start(j) / 16;
 }
 
 /* inspect: 10, 15, or the number of rows. */
 static inline uint64_t inspect_answer(const struct judged *j)
 {
     if (!j->sound)
-        return REFUSED(UNSOUND);
+        return REFUSED(STRIP_UNSOUND);
     for (unsigned r = 0; r < j->count; r++)
         if (!j->rows[r].right)
-            return REFUSED(WRONG_ROW);
+            return REFUSED(STRIP_WRONG_ROW);
     return j->count;
 }
 
@@ -203,11 +160,11 @@ struct opened {
 static inline struct opened open_row(const struct judged *j, uint64_t label)
 {
     if (!j->sound)
-        return (struct opened){NULL, REFUSED(UNSOUND)};
+        return (struct opened){NULL, REFUSED(STRIP_UNSOUND)};
     if (label < 1 || label > 64)
-        return (struct opened){NULL, REFUSED(BAD_LABEL)};
+        return (struct opened){NULL, REFUSED(STRIP_BAD_LABEL)};
     const struct row *row = row_of(j, label);
-    return (struct opened){row, row == NULL ? REFUSED(LABEL_ABSENT) : 0};
+    return (struct opened){row, row == NULL ? REFUSED(STRIP_LABEL_ABSENT) : 0};
 }
 
 /* A part of so many bytes with a length held: 10 where it is not exactly one record of that length. */
@@ -216,7 +173,7 @@ static inline struct opened open_part(struct judged *one, const uint8_t *part, u
     one->count = 0;
     int whole = take_record(one, part, size, 0) && record_size(one->rows[0].length) == size;
     const struct row *row = whole && one->rows[0].length == length ? &one->rows[0] : NULL;
-    return (struct opened){row, row == NULL ? REFUSED(UNSOUND) : 0};
+    return (struct opened){row, row == NULL ? REFUSED(STRIP_UNSOUND) : 0};
 }
 
 /* Opening as it is told: the byte where the record starts, or the refusal. */
@@ -225,12 +182,26 @@ static inline uint64_t open_answer(struct opened o)
     return o.row == NULL ? o.refused : o.row->start;
 }
 
+/* A row's length: that of its record, on a wrong row too. */
+static inline uint64_t length_answer(struct opened o)
+{
+    return o.row == NULL ? o.refused : o.row->length;
+}
+
+/* The label of the k-th row in chain order, k from 0: 10, 14. */
+static inline uint64_t label_answer(const struct judged *j, uint64_t k)
+{
+    if (!j->sound)
+        return REFUSED(STRIP_UNSOUND);
+    return k < j->count ? j->rows[k].label : REFUSED(STRIP_LABEL_ABSENT);
+}
+
 /* look(i): exact, on a wrong row too. */
 static inline uint64_t get_answer(struct opened o, uint64_t i)
 {
     if (o.row == NULL)
         return o.refused;
-    return i < o.row->length ? bit(o.row->bits, i) : REFUSED(POSITION);
+    return i < o.row->length ? bit(o.row->bits, i) : REFUSED(STRIP_POSITION);
 }
 
 /* How many of the first i bits are ones. */
@@ -248,11 +219,11 @@ static inline int rank_allowed(struct opened o, uint64_t v, uint64_t i, uint64_t
     if (o.row == NULL)
         return told == o.refused;
     if (v > 1)
-        return told == REFUSED(BAD_VALUE);
+        return told == REFUSED(STRIP_BAD_VALUE);
     if (i > o.row->length)
-        return told == REFUSED(POSITION);
+        return told == REFUSED(STRIP_POSITION);
     if (!o.row->right)
-        return told <= i || told == REFUSED(WRONG_ROW);
+        return told <= i || told == REFUSED(STRIP_WRONG_ROW);
     uint64_t ones = ones_before(o.row, i);
     return told == (v == 1 ? ones : i - ones);
 }
@@ -274,21 +245,21 @@ static inline uint64_t found(const struct row *row, uint64_t v, uint64_t k)
             return p;
         k--;
     }
-    return REFUSED(NOT_FOUND);
+    return REFUSED(STRIP_NOT_FOUND);
 }
 
-/* Whether find(v, k) may tell this: exact, but a position below the length, 6 or 15 on a wrong row, and 6 there for k at or
- * past the length. */
+/* Whether find(v, k) may tell this: exact, but a position below the length, 6 or 15 on a wrong row, and 6 there for k
+ * at or past the length. */
 static inline int select_allowed(struct opened o, uint64_t v, uint64_t k, uint64_t told)
 {
     if (o.row == NULL)
         return told == o.refused;
     if (v > 1)
-        return told == REFUSED(BAD_VALUE);
+        return told == REFUSED(STRIP_BAD_VALUE);
     if (k >= o.row->length)
-        return told == REFUSED(NOT_FOUND);
+        return told == REFUSED(STRIP_NOT_FOUND);
     if (!o.row->right)
-        return told < o.row->length || told == REFUSED(NOT_FOUND) || told == REFUSED(WRONG_ROW);
+        return told < o.row->length || told == REFUSED(STRIP_NOT_FOUND) || told == REFUSED(STRIP_WRONG_ROW);
     return told == found(o.row, v, k);
 }
 
@@ -296,9 +267,9 @@ static inline int select_allowed(struct opened o, uint64_t v, uint64_t k, uint64
 
 /* The strip as a row, in `room`: 1, 2. */
 static inline struct opened open_strip(struct row *room, uint64_t capacity, uint64_t length, const void *words,
-                                       uint64_t word_count)
+                                       uint64_t words_len)
 {
-    uint64_t refused = handle_refused(capacity, length, word_count);
+    uint64_t refused = handle_refused(capacity, length, words_len);
     *room = (struct row){0, 0, length, words, 1};
     return (struct opened){refused == 0 ? room : NULL, refused};
 }
@@ -309,8 +280,8 @@ static inline uint64_t seek_refused(struct opened o, uint64_t v, uint64_t i)
     if (o.row == NULL)
         return o.refused;
     if (v > 1)
-        return REFUSED(BAD_VALUE);
-    return i > o.row->length ? REFUSED(POSITION) : 0;
+        return REFUSED(STRIP_BAD_VALUE);
+    return i > o.row->length ? REFUSED(STRIP_POSITION) : 0;
 }
 
 /* next(v, i). */
@@ -322,7 +293,7 @@ static inline uint64_t successor_answer(struct opened o, uint64_t v, uint64_t i)
     for (uint64_t p = i; p < o.row->length; p++)
         if (bit(o.row->bits, p) == v)
             return p;
-    return REFUSED(NOT_FOUND);
+    return REFUSED(STRIP_NOT_FOUND);
 }
 
 /* prior(v, i). */
@@ -334,7 +305,7 @@ static inline uint64_t predecessor_answer(struct opened o, uint64_t v, uint64_t 
     for (uint64_t p = i; p > 0; p--)
         if (bit(o.row->bits, p - 1) == v)
             return p - 1;
-    return REFUSED(NOT_FOUND);
+    return REFUSED(STRIP_NOT_FOUND);
 }
 
 /* The position of the k-th one of a word, or 64. */
@@ -348,17 +319,6 @@ static inline uint64_t word_select_answer(uint64_t x, uint64_t k)
         k--;
     }
     return 64;
-}
-
-/* How many counters a capacity needs. */
-static inline size_t counter_count_of(size_t capacity)
-{
-    size_t nodes = 0, children = capacity / 512;
-    do {
-        children = (children + 63) / 64;
-        nodes += children;
-    } while (children > 1);
-    return 72 * nodes;
 }
 
 #endif

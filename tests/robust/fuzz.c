@@ -1,21 +1,23 @@
-/* The display's four functions on any bytes, for a coverage-guided fuzzer (libFuzzer), each answer held to common/judge.h. The
- * library itself is not instrumented: the fuzzer sees the branches of the judge, and what kind of answer each call gave.
+/* The display's six functions on any bytes, for a coverage-guided fuzzer (libFuzzer), each answer held to
+ * common/judge.h. The library itself is not instrumented: the fuzzer sees the branches of the judge, and what kind of
+ * answer each call gave.
  *
- * An input is 16 bytes of arguments and then the image: label, v, flags, one unused; i in four bytes; k in four; four
- * unused. The image is lent only to read, flush against a closed page, at its end or at its start.
+ * An input is 16 bytes of arguments and then the image: label, v, flags, a row's place in the chain; i in four bytes; k
+ * in four; four unused. The image is lent only to read, flush against a closed page, at its end or at its start.
  *
  * With REPLAY the program runs the files that it is given, and tells how many calls that were. */
 #include "lend.h"
 
-#include "../common/judge.h"
 #include "display.h"
+#include "judge.h"
 
 #include <inttypes.h>
 
 enum { PREFIX = 16, MOST = 65536 };
-enum { INSPECT, COUNT, FIND, LOOK, CALLS };
+enum { INSPECT, RANK, SELECT, GET, LENGTH, LABEL, CALLS };
 
-static const char *const names[CALLS] = {"inspect", "row count", "row find", "row look"};
+static const char *const names[CALLS] = {"image_inspect", "image_row_rank",   "image_row_select",
+                                         "image_row_get", "image_row_length", "image_row_label"};
 static struct memory memory;
 static uint64_t calls[CALLS];
 
@@ -28,9 +30,9 @@ static uint8_t kinds[CALLS][2][64];
 static void note(int call, int right, uint64_t told)
 {
     unsigned size = 16;
-    for (uint64_t value = told; value != 0 && !is_refused(told); value /= 2)
+    for (uint64_t value = told; value != 0 && !STRIP_REFUSED(told); value /= 2)
         size++;
-    kinds[call][right][is_refused(told) ? (told - WIDE) % 16 : size] = 1;
+    kinds[call][right][STRIP_REFUSED(told) ? STRIP_REFUSAL(told) % 16 : size] = 1;
     calls[call]++;
 }
 
@@ -47,16 +49,25 @@ static void hold(int call, int allowed, const struct row *row, uint64_t x, uint6
     abort();
 }
 
-/* The three readings of a label's row. */
+/* The three readings of a label's row, and its length. */
 static void read_row(const struct judged *j, struct lent l, uint64_t label, uint64_t v, uint64_t i, uint64_t k)
 {
     struct opened o = open_row(j, label);
-    uint64_t told = strip_row_count(l.read, l.length, label, v, i);
-    hold(COUNT, rank_allowed(o, v, i, told), o.row, v, i, told);
-    told = strip_row_find(l.read, l.length, label, v, k);
-    hold(FIND, select_allowed(o, v, k, told), o.row, v, k, told);
-    told = strip_row_look(l.read, l.length, label, i);
-    hold(LOOK, told == get_answer(o, i), o.row, i, 0, told);
+    uint64_t told = image_row_rank(l.read, l.length, label, v, i);
+    hold(RANK, rank_allowed(o, v, i, told), o.row, v, i, told);
+    told = image_row_select(l.read, l.length, label, v, k);
+    hold(SELECT, select_allowed(o, v, k, told), o.row, v, k, told);
+    told = image_row_get(l.read, l.length, label, i);
+    hold(GET, told == get_answer(o, i), o.row, i, 0, told);
+    told = image_row_length(l.read, l.length, label);
+    hold(LENGTH, told == length_answer(o), o.row, label, 0, told);
+}
+
+/* The label at a place in the chain. */
+static void read_place(const struct judged *j, struct lent l, uint64_t place)
+{
+    uint64_t told = image_row_label(l.read, l.length, place);
+    hold(LABEL, told == label_answer(j, place), j->sound && place < j->count ? &j->rows[place] : NULL, place, 0, told);
 }
 
 /* A row at its ends and near a position: of each value the last that there is, by its own count, and one more; and with
@@ -91,13 +102,18 @@ int LLVMFuzzerTestOneInput(const uint8_t *data, size_t size)
         l.read = flags & 32 ? NULL : l.read;
     judge(&j, data + PREFIX, l.length);
 
-    uint64_t told = strip_inspect(l.read, l.length);
+    uint64_t told = image_inspect(l.read, l.length);
     hold(INSPECT, told == inspect_answer(&j), NULL, 0, 0, told);
     uint64_t i = little_endian(data + 4, 4), k = little_endian(data + 8, 4);
     read_row(&j, l, data[0] + (flags & 1 ? WIDE : 0), data[1] + (flags & 2 ? WIDE : 0), i + (flags & 4 ? WIDE : 0),
              k + (flags & 8 ? WIDE : 0));
-    for (unsigned r = 0; j.sound && r < j.count; r++)
+    read_place(&j, l, data[3] + (flags & 64 ? WIDE : 0));
+    for (unsigned r = 0; j.sound && r < j.count; r++) {
         read_edges(&j, l, &j.rows[r], i, k);
+        read_place(&j, l, r);
+        read_place(&j, l, r + WIDE);
+    }
+    read_place(&j, l, j.count);
     must(l.length == 0 || memcmp(l.write, data + PREFIX, l.length) == 0, "the image changed");
     l.read = l.write - l.of->write + l.of->read;
     give_back(l);
@@ -115,36 +131,14 @@ int main(int count, char **files)
         fclose(file);
         LLVMFuzzerTestOneInput(data, size);
     }
-    uint64_t all = calls[INSPECT] + calls[COUNT] + calls[FIND] + calls[LOOK];
+    uint64_t all = 0;
+    for (int call = 0; call < CALLS; call++)
+        all += calls[call];
     printf("%d images, %" PRIu64 " calls\n", count - 1, all);
     return all > 0 ? 0 : 1;
 }
 #else
 size_t LLVMFuzzerMutate(uint8_t *data, size_t size, size_t most);
-
-static void store(uint8_t *at, unsigned bytes, uint64_t number)
-{
-    for (unsigned b = 0; b < bytes; b++)
-        at[b] = (uint8_t)(number >> (8 * b));
-}
-
-/* Makes a row right by its bits. */
-static void repair_row(uint8_t *record)
-{
-    uint64_t length = little_endian(record + 8, 4), number = superblocks(length), ones = 0;
-    uint8_t *bits = record + 16 + 16 * number;
-    for (uint64_t p = length; p < 4096 * number; p++)
-        bits[p / 8] &= (uint8_t) ~(1 << (p % 8));
-    for (uint64_t e = 0; e < number; e++) {
-        unsigned __int128 entry = ones;
-        for (unsigned k = 1; k < 8; k++)
-            entry |= (unsigned __int128)ones_of(bits + 512 * e, 64 * k) << (44 + 12 * (k - 1));
-        store(record + 16 + 16 * e, 8, (uint64_t)entry);
-        store(record + 24 + 16 * e, 8, (uint64_t)(entry >> 64));
-        ones += ones_of(bits + 512 * e, 512);
-    }
-    store(record + 12, 4, ones);
-}
 
 /* Makes the header's fixed bytes right, and every row of a sound chain. */
 static void repair(uint8_t *image, size_t size)
@@ -156,7 +150,7 @@ static void repair(uint8_t *image, size_t size)
     store(image + 8, 8, 0);
     judge(&j, image, size);
     for (unsigned r = 0; r < j.count; r++)
-        repair_row(image + j.rows[r].start);
+        make_right(image + j.rows[r].start);
 }
 
 static unsigned drawn(unsigned *seed)
@@ -174,7 +168,8 @@ static size_t append(uint8_t *image, size_t size, size_t most, unsigned *seed)
         return size;
     uint64_t link = j.count == 0 ? 0 : j.rows[j.count - 1].start;
     uint64_t start = next_start(&j) + (drawn(seed) % 4 == 0 ? 16 : 0);
-    uint64_t length = drawn(seed) % 3 == 0 ? 4096 * (drawn(seed) % (most / 600)) + drawn(seed) % 3 : drawn(seed) % 12000;
+    uint64_t whole = 4096 * (drawn(seed) % (most / 600));
+    uint64_t length = drawn(seed) % 3 == 0 ? whole + drawn(seed) % 3 : drawn(seed) % 12000;
     uint64_t label = 1 + drawn(seed) % 64, end = start + record_size(length);
     if (end > most || row_of(&j, label) != NULL)
         return size;
@@ -185,7 +180,7 @@ static size_t append(uint8_t *image, size_t size, size_t most, unsigned *seed)
     unsigned dense = drawn(seed) % 4;
     for (uint64_t b = start + 16 + 16 * superblocks(length); b < end && dense > 0; b++)
         image[b] = (uint8_t)(dense == 1 ? drawn(seed) & drawn(seed) & drawn(seed) : dense == 2 ? drawn(seed) : 255);
-    repair_row(image + start);
+    make_right(image + start);
     store(image + link, 4, start / 16);
     return size;
 }

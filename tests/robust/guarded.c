@@ -3,15 +3,16 @@
  *     guarded end|start ROUNDS SEED [ROUND]
  *
  * All buffers end, or all start, at a closed page. What a call may only read is lent through a view that cannot be
- * written. Each round draws a record and an image and makes calls of every kind on them; round 0 is that of the largest. A
- * round draws from the seed and its number, which a failure tells; with ROUND it runs alone. Held here is that a call
- * touches nothing that was not lent, tells nothing that it may not tell, and changes nothing where it is refused or only
- * reads; look, next, prior, freezing, opening and the readings of rows are held to common/judge.h in full. At the end of
- * all rounds every function has been accepted and has met every refusal of its line. */
+ * written. Each round draws a record and an image and makes calls of every kind on them; round 0 is that of the
+ * largest. A round draws from the seed and its number, which a failure tells; with ROUND it runs alone. Held here is
+ * that a call touches nothing that was not lent, tells nothing that it may not tell, and changes nothing where it is
+ * refused or only reads; the sizes, look, next, prior, freezing, opening, the labels and lengths of rows and their
+ * readings are held to common/judge.h in full. At the end of all rounds every function has been accepted and has met
+ * every refusal of its line. */
 #include "lend.h"
 
-#include "../common/judge.h"
-#include "display.h"
+#include "judge.h"
+#include "strips.h"
 #include "testing.h"
 
 #include <inttypes.h>
@@ -22,52 +23,57 @@ enum { MOST_IMAGE = 16 + 16 + 528 * 32768 + 64, SCRIPT = 24 };
 
 /* ---- what was told */
 
+/* Those of libstrips.a, the display's six last, then those of libtesting.a. */
 enum call {
-    GET, SUCCESSOR, PREDECESSOR, SELECT_IN_WORD, RANK, SELECT, VERIFY, CREATE, PUSH, FLIP, FILL, TRUNCATE, CLEAR, FREEZE,
-    OPEN, ROW_GET, ROW_RANK, ROW_SELECT, PART_GET, PART_RANK, PART_SELECT, OPENED_GET, OPENED_RANK, OPENED_SELECT, EXECUTE,
-    STEP, INSPECT, ROW_COUNT, ROW_FIND, ROW_LOOK, CALLS
+    COUNTER_COUNT, CREATE, PUSH, FLIP, FILL, TRUNCATE, GET, RANK, SELECT, SUCCESSOR, PREDECESSOR, VERIFY, RECORD_SIZE,
+    CLEAR, FREEZE, INSPECT, ROW_RANK, ROW_SELECT, ROW_GET, ROW_LENGTH, ROW_LABEL, SELECT_IN_WORD, OPEN, PART_GET,
+    PART_RANK, PART_SELECT, OPENED_GET, OPENED_RANK, OPENED_SELECT, EXECUTE, STEP, CALLS
 };
 
 #define R(n) (1u << (n))
-#define HANDLE (R(BAD_HANDLE) | R(WORD_COUNT))
-#define RECORD (R(BAD_HANDLE) | R(WORD_COUNT) | R(COUNTER_COUNT))
-#define OPENING (R(UNSOUND) | R(BAD_LABEL) | R(LABEL_ABSENT))
+#define HANDLE (R(STRIP_BAD_HANDLE) | R(STRIP_WORD_COUNT))
+#define RECORD (HANDLE | R(STRIP_COUNTER_COUNT))
+#define OPENING (R(STRIP_UNSOUND) | R(STRIP_BAD_LABEL) | R(STRIP_LABEL_ABSENT))
+#define COUNTING (R(STRIP_BAD_VALUE) | R(STRIP_POSITION) | R(STRIP_WRONG_ROW))
+#define FINDING (R(STRIP_BAD_VALUE) | R(STRIP_NOT_FOUND) | R(STRIP_WRONG_ROW))
 
 /* Each function's refusals. */
 static const struct {
     const char *name;
     unsigned refusals;
 } functions[CALLS] = {
-    [GET] = {"strip_get", HANDLE | R(POSITION)},
-    [SUCCESSOR] = {"strip_successor", HANDLE | R(BAD_VALUE) | R(POSITION) | R(NOT_FOUND)},
-    [PREDECESSOR] = {"strip_predecessor", HANDLE | R(BAD_VALUE) | R(POSITION) | R(NOT_FOUND)},
-    [SELECT_IN_WORD] = {"strip_select_in_word", 0},
-    [RANK] = {"strip_rank", RECORD | R(BAD_VALUE) | R(POSITION) | R(UNFIT)},
-    [SELECT] = {"strip_select", RECORD | R(BAD_VALUE) | R(NOT_FOUND) | R(UNFIT)},
-    [VERIFY] = {"strip_verify", RECORD | R(UNFIT)},
+    [COUNTER_COUNT] = {"strip_counter_count", R(STRIP_BAD_HANDLE)},
     [CREATE] = {"strip_create", RECORD},
-    [PUSH] = {"strip_push", RECORD | R(BAD_VALUE) | R(FULL)},
-    [FLIP] = {"strip_flip", RECORD | R(POSITION)},
-    [FILL] = {"strip_fill", RECORD | R(BAD_VALUE) | R(SPAN) | R(POSITION)},
-    [TRUNCATE] = {"strip_truncate", RECORD | R(POSITION)},
-    [CLEAR] = {"image_clear", R(NO_ROOM)},
-    [FREEZE] = {"image_freeze", HANDLE | R(UNSOUND) | R(BAD_LABEL) | R(LABEL_PRESENT) | R(NO_ROOM)},
+    [PUSH] = {"strip_push", RECORD | R(STRIP_BAD_VALUE) | R(STRIP_FULL)},
+    [FLIP] = {"strip_flip", RECORD | R(STRIP_POSITION)},
+    [FILL] = {"strip_fill", RECORD | R(STRIP_BAD_VALUE) | R(STRIP_SPAN) | R(STRIP_POSITION)},
+    [TRUNCATE] = {"strip_truncate", RECORD | R(STRIP_POSITION)},
+    [GET] = {"strip_get", HANDLE | R(STRIP_POSITION)},
+    [RANK] = {"strip_rank", RECORD | R(STRIP_BAD_VALUE) | R(STRIP_POSITION) | R(STRIP_UNFIT)},
+    [SELECT] = {"strip_select", RECORD | R(STRIP_BAD_VALUE) | R(STRIP_NOT_FOUND) | R(STRIP_UNFIT)},
+    [SUCCESSOR] = {"strip_successor", HANDLE | R(STRIP_BAD_VALUE) | R(STRIP_POSITION) | R(STRIP_NOT_FOUND)},
+    [PREDECESSOR] = {"strip_predecessor", HANDLE | R(STRIP_BAD_VALUE) | R(STRIP_POSITION) | R(STRIP_NOT_FOUND)},
+    [VERIFY] = {"strip_verify", RECORD | R(STRIP_UNFIT)},
+    [RECORD_SIZE] = {"image_record_size", R(STRIP_POSITION)},
+    [CLEAR] = {"image_clear", R(STRIP_NO_ROOM)},
+    [FREEZE] = {"image_freeze",
+                HANDLE | R(STRIP_UNSOUND) | R(STRIP_BAD_LABEL) | R(STRIP_LABEL_PRESENT) | R(STRIP_NO_ROOM)},
+    [INSPECT] = {"image_inspect", R(STRIP_UNSOUND) | R(STRIP_WRONG_ROW)},
+    [ROW_RANK] = {"image_row_rank", OPENING | COUNTING},
+    [ROW_SELECT] = {"image_row_select", OPENING | FINDING},
+    [ROW_GET] = {"image_row_get", OPENING | R(STRIP_POSITION)},
+    [ROW_LENGTH] = {"image_row_length", OPENING},
+    [ROW_LABEL] = {"image_row_label", R(STRIP_UNSOUND) | R(STRIP_LABEL_ABSENT)},
+    [SELECT_IN_WORD] = {"strip_select_in_word", 0},
     [OPEN] = {"image_open", OPENING},
-    [ROW_GET] = {"image_row_get", OPENING | R(POSITION)},
-    [ROW_RANK] = {"image_row_rank", OPENING | R(BAD_VALUE) | R(POSITION) | R(WRONG_ROW)},
-    [ROW_SELECT] = {"image_row_select", OPENING | R(BAD_VALUE) | R(NOT_FOUND) | R(WRONG_ROW)},
-    [PART_GET] = {"image_part_get", R(UNSOUND) | R(POSITION)},
-    [PART_RANK] = {"image_part_rank", R(UNSOUND) | R(BAD_VALUE) | R(POSITION) | R(WRONG_ROW)},
-    [PART_SELECT] = {"image_part_select", R(UNSOUND) | R(BAD_VALUE) | R(NOT_FOUND) | R(WRONG_ROW)},
-    [OPENED_GET] = {"image_opened_get", R(UNSOUND) | R(POSITION)},
-    [OPENED_RANK] = {"image_opened_rank", R(UNSOUND) | R(BAD_VALUE) | R(POSITION) | R(WRONG_ROW)},
-    [OPENED_SELECT] = {"image_opened_select", R(UNSOUND) | R(BAD_VALUE) | R(NOT_FOUND) | R(WRONG_ROW)},
-    [EXECUTE] = {"strip_execute", RECORD | R(NO_ROOM)},
+    [PART_GET] = {"image_part_get", R(STRIP_UNSOUND) | R(STRIP_POSITION)},
+    [PART_RANK] = {"image_part_rank", R(STRIP_UNSOUND) | COUNTING},
+    [PART_SELECT] = {"image_part_select", R(STRIP_UNSOUND) | FINDING},
+    [OPENED_GET] = {"image_opened_get", OPENING | R(STRIP_POSITION)},
+    [OPENED_RANK] = {"image_opened_rank", OPENING | COUNTING},
+    [OPENED_SELECT] = {"image_opened_select", OPENING | FINDING},
+    [EXECUTE] = {"strip_execute", RECORD | R(STRIP_NO_ROOM)},
     [STEP] = {"strip_step", 0xfffe},
-    [INSPECT] = {"strip_inspect", R(UNSOUND) | R(WRONG_ROW)},
-    [ROW_COUNT] = {"strip_row_count", OPENING | R(BAD_VALUE) | R(POSITION) | R(WRONG_ROW)},
-    [ROW_FIND] = {"strip_row_find", OPENING | R(BAD_VALUE) | R(NOT_FOUND) | R(WRONG_ROW)},
-    [ROW_LOOK] = {"strip_row_look", OPENING | R(POSITION)},
 };
 
 static uint64_t calls[CALLS];
@@ -100,7 +106,7 @@ static void note(enum call call, uint64_t refusal)
 /* Notes an answer, a refusal as 2^32 plus its number, and answers it. */
 static uint64_t told(enum call call, uint64_t answer)
 {
-    note(call, !is_refused(answer) ? 0 : answer == WIDE ? 99 : answer - WIDE);
+    note(call, !STRIP_REFUSED(answer) ? 0 : answer == REFUSED(0) ? 99 : answer - REFUSED(0));
     return answer;
 }
 
@@ -235,19 +241,19 @@ static struct copy words_copy, counters_copy, image_copy;
 /* ---- a record */
 
 struct record {
-    size_t capacity, length;
+    uint64_t capacity, length;
     struct lent words, counters;
 };
 
 /* A handle as passed: mostly the record's. */
-static size_t some_capacity(const struct record *r)
+static uint64_t some_capacity(const struct record *r)
 {
     if (!one_in(16))
         return r->capacity;
     return one_in(4) ? r->capacity + 512 : bad_capacities[below(COUNT_OF(bad_capacities))];
 }
 
-static size_t some_length(const struct record *r)
+static uint64_t some_length(const struct record *r)
 {
     return one_in(24) ? (one_in(2) ? r->capacity + 1 : huge()) : r->length;
 }
@@ -295,10 +301,9 @@ static int told_five(enum call call, struct five f)
 }
 
 /* One change with drawn arguments, under the handle of c and n. What create is lent is not set. */
-static void make_change(const struct record *r, enum call call, size_t c, size_t n, struct five f)
+static void make_change(const struct record *r, enum call call, uint64_t c, uint64_t n, struct five f)
 {
-    size_t i = position(r->length), k = one_in(2) ? i + below(200) : position(r->length);
-    uint64_t v = value();
+    uint64_t i = position(r->length), k = one_in(2) ? i + below(200) : position(r->length), v = value();
     if (call == CREATE) {
         VALGRIND_MAKE_MEM_UNDEFINED(r->words.write, r->words.length);
         VALGRIND_MAKE_MEM_UNDEFINED(r->counters.write, r->counters.length);
@@ -324,7 +329,7 @@ static int all_set(struct lent l)
 /* One change; the record goes on with the handle given back. Refused, or with no room, it changes nothing. */
 static void change(struct record *r, enum call call)
 {
-    size_t c = some_capacity(r), n = some_length(r);
+    uint64_t c = some_capacity(r), n = some_length(r);
     struct five f = lend_five();
     uint64_t *out = (uint64_t *)f.lent.write;
     keep(&words_copy, r->words);
@@ -347,8 +352,7 @@ static void change(struct record *r, enum call call)
 /* look, next and prior, held to the judge. */
 static void read_words(struct record *r, enum call call)
 {
-    size_t c = some_capacity(r), n = some_length(r), i = position(r->length);
-    uint64_t v = value(), answer, wanted;
+    uint64_t c = some_capacity(r), n = some_length(r), i = position(r->length), v = value(), answer, wanted;
     struct row room;
     struct opened strip = open_strip(&room, c, n, r->words.write, r->words.length / 8);
     if (call == GET) {
@@ -367,15 +371,24 @@ static void read_words(struct record *r, enum call call)
 /* count, find and check: within their bounds. */
 static void read_record(struct record *r, enum call call)
 {
-    size_t c = some_capacity(r), n = some_length(r), i = position(r->length);
-    uint64_t v = value(), answer, most;
+    uint64_t c = some_capacity(r), n = some_length(r), i = position(r->length), v = value(), answer, most;
     switch (call) {
     case RANK: answer = strip_rank(c, n, WORDS(r), COUNTERS(r), v, i), most = i; break;
     case SELECT: answer = strip_select(c, n, WORDS(r), COUNTERS(r), v, i), most = n - 1; break;
     default: answer = strip_verify(c, n, WORDS(r), COUNTERS(r)), most = n; break;
     }
-    if (!is_refused(told(call, answer)))
+    if (!STRIP_REFUSED(told(call, answer)))
         expect(call, answer <= most, "an answer out of its bounds");
+}
+
+/* The sizes of a record of some capacity, and of a row of some length. */
+static void ask_sizes(const struct record *r)
+{
+    uint64_t c = one_in(4) ? bad_capacities[below(COUNT_OF(bad_capacities))] : 512 * (1 + below(LARGEST / 512));
+    uint64_t n = one_in(2) ? position(LARGEST) : position(r->length);
+    c = one_in(4) ? near(c) : c;
+    expect(COUNTER_COUNT, told(COUNTER_COUNT, strip_counter_count(c)) == counter_count_answer(c), "another number");
+    expect(RECORD_SIZE, told(RECORD_SIZE, image_record_size(n)) == record_size_answer(n), "another size");
 }
 
 static void select_in_word(void)
@@ -386,16 +399,16 @@ static void select_in_word(void)
     expect(SELECT_IN_WORD, p == word_select_answer(x, k), "another position");
 }
 
-static size_t drawn_capacity(void)
+static uint64_t drawn_capacity(void)
 {
-    static const size_t list[] = {ONE_LEVEL, TWO_LEVELS, 65536, 66048};
+    static const uint64_t list[] = {ONE_LEVEL, TWO_LEVELS, 65536, 66048};
     if (one_in(400))
         return one_in(2) ? TWO_LEVELS_FULL : THREE_LEVELS;
     return one_in(6) ? list[below(4)] : 512 * (1 + below(9));
 }
 
 /* A record: with as many words and counters as it needs, mostly; fitting, nearly so, or anything. */
-static struct record drawn_record(size_t capacity)
+static struct record drawn_record(uint64_t capacity)
 {
     struct record r = {capacity, one_in(4) ? capacity : below(capacity + 1), {0}, {0}};
     r.words = lend(&words_memory, 8 * size_near(capacity / 64), at_end);
@@ -426,6 +439,7 @@ static void record_calls(struct record *r)
         if (one_in(2))
             change(r, changes[below(one_in(4) ? 7 : 4)]);
     }
+    ask_sizes(r);
     select_in_word();
 }
 
@@ -460,7 +474,7 @@ static void clear(void)
     if (image.length < WIDE - PAGE)
         keep(&image_copy, image);
     uint64_t answer = told(CLEAR, image_clear(lent_at(image, 1), image.length));
-    int fit = !is_refused(clear_answer(image.length));
+    int fit = !STRIP_REFUSED(clear_answer(image.length));
     expect(CLEAR, answer == clear_answer(image.length), "another answer");
     size_t from = fit ? 16 : 0;
     if (image.length > from && image.length < WIDE - PAGE)
@@ -471,7 +485,7 @@ static void clear(void)
 }
 
 /* The row just written is right, and has the strip's bits; no byte changed but its own and those of one index. */
-static void freeze_wrote(const struct record *r, size_t n, uint64_t start, uint64_t index)
+static void freeze_wrote(const struct record *r, uint64_t n, uint64_t start, uint64_t index)
 {
     const struct row *row = &judged.rows[judged.count - 1];
     expect(FREEZE, judged.sound && row->start == start && row->length == n && row->right,
@@ -488,7 +502,7 @@ static void freeze_wrote(const struct record *r, size_t n, uint64_t start, uint6
 
 static void freeze(const struct record *r, uint64_t label)
 {
-    size_t c = some_capacity(r), n = some_length(r);
+    uint64_t c = some_capacity(r), n = some_length(r);
     uint64_t start = next_start(&judged), index = judged.count == 0 ? 0 : judged.rows[judged.count - 1].start;
     uint64_t refused = handle_refused(c, n, r->words.length / 8);
     uint64_t answer = refused != 0 ? refused : freeze_answer(&judged, image.length, n, label);
@@ -498,7 +512,7 @@ static void freeze(const struct record *r, uint64_t label)
     uint8_t *at = lent_at(image, 1);
     expect(FREEZE, told(FREEZE, image_freeze(c, n, WORDS(r), at, image.length, label)) == answer, "another answer");
     settle();
-    if (!is_refused(answer))
+    if (!STRIP_REFUSED(answer))
         freeze_wrote(r, n, start, index);
     else
         expect(FREEZE, image.length >= WIDE - PAGE || same(&image_copy, image), "refused, and changed the image");
@@ -548,11 +562,6 @@ static void drawn_image(const struct record *r)
 
 #define IMAGE ((const uint8_t *)lent_at(image, 0)), image.length
 
-static void hold_get(enum call call, struct opened o, uint64_t i, uint64_t answer)
-{
-    expect(call, told(call, answer) == get_answer(o, i), "another answer");
-}
-
 static void hold_rank(enum call call, struct opened o, uint64_t v, uint64_t i, uint64_t answer)
 {
     expect(call, rank_allowed(o, v, i, told(call, answer)), "another answer");
@@ -563,21 +572,38 @@ static void hold_select(enum call call, struct opened o, uint64_t v, uint64_t k,
     expect(call, select_allowed(o, v, k, told(call, answer)), "another answer");
 }
 
-/* All readings by label: the display's, those of the testing library, and on an opened row, which has 10 alone. */
+static void hold(enum call call, uint64_t answer, uint64_t wanted)
+{
+    expect(call, told(call, answer) == wanted, "another answer");
+}
+
+/* A place in the chain: of a row, the first that is none, or past all. */
+static uint64_t place(void)
+{
+    switch (below(6)) {
+    case 0: return huge();
+    case 1: return WIDE + below(judged.count + 1);
+    case 2: return judged.count;
+    default: return below(judged.count + 1);
+    }
+}
+
+/* Inspect, a label of the chain, opening, and all readings of the label's row: by the label, and on the row opened. Two
+ * readings of one row on the same place tell the same. */
 static void read_label_at(uint64_t label, uint64_t v, uint64_t i, uint64_t k)
 {
-    struct opened o = open_row(&judged, label), held = {o.row, REFUSED(UNSOUND)};
-    expect(OPEN, told(OPEN, image_open(IMAGE, label)) == open_answer(o), "another answer");
-    expect(INSPECT, told(INSPECT, strip_inspect(IMAGE)) == inspect_answer(&judged), "another answer");
-    hold_get(ROW_LOOK, o, i, strip_row_look(IMAGE, label, i));
-    hold_rank(ROW_COUNT, o, v, i, strip_row_count(IMAGE, label, v, i));
-    hold_select(ROW_FIND, o, v, k, strip_row_find(IMAGE, label, v, k));
-    hold_get(ROW_GET, o, i, image_row_get(IMAGE, label, i));
-    hold_rank(ROW_RANK, o, v, i, image_row_rank(IMAGE, label, v, i));
-    hold_select(ROW_SELECT, o, v, k, image_row_select(IMAGE, label, v, k));
-    hold_get(OPENED_GET, held, i, image_opened_get(IMAGE, label, i));
-    hold_rank(OPENED_RANK, held, v, i, image_opened_rank(IMAGE, label, v, i));
-    hold_select(OPENED_SELECT, held, v, k, image_opened_select(IMAGE, label, v, k));
+    struct opened o = open_row(&judged, label);
+    uint64_t at = place(), ranked = image_row_rank(IMAGE, label, v, i), selected = image_row_select(IMAGE, label, v, k);
+    hold(INSPECT, image_inspect(IMAGE), inspect_answer(&judged));
+    hold(ROW_LABEL, image_row_label(IMAGE, at), label_answer(&judged, at));
+    hold(ROW_LENGTH, image_row_length(IMAGE, label), length_answer(o));
+    hold(OPEN, image_open(IMAGE, label), open_answer(o));
+    hold(ROW_GET, image_row_get(IMAGE, label, i), get_answer(o, i));
+    hold_rank(ROW_RANK, o, v, i, ranked);
+    hold_select(ROW_SELECT, o, v, k, selected);
+    hold(OPENED_GET, image_opened_get(IMAGE, label, i), get_answer(o, i));
+    hold(OPENED_RANK, image_opened_rank(IMAGE, label, v, i), ranked);
+    hold(OPENED_SELECT, image_opened_select(IMAGE, label, v, k), selected);
 }
 
 static void read_label(uint64_t label)
@@ -594,7 +620,7 @@ static void read_part(void)
         return;
     const struct row *whole = &judged.rows[below(judged.count)];
     size_t size = record_size(whole->length), lent_size = one_in(6) ? (one_in(2) ? near(size) : below(size)) : size;
-    size_t n = one_in(8) ? (one_in(2) ? near(whole->length) : position(whole->length)) : whole->length;
+    uint64_t n = one_in(8) ? (one_in(2) ? near(whole->length) : position(whole->length)) : whole->length;
     struct lent part = lend(&part_memory, lent_size, at_end);
     memset(part.write, 0, lent_size);
     memcpy(part.write, image.write + whole->start, lent_size < size ? lent_size : size);
@@ -604,7 +630,7 @@ static void read_part(void)
     struct opened o = open_part(&one, part.write, lent_size, n);
     const uint8_t *at = lent_at(part, 0);
     uint64_t v = value(), i = position(whole->length), k = position(whole->length);
-    hold_get(PART_GET, o, i, image_part_get(at, lent_size, n, i));
+    hold(PART_GET, image_part_get(at, lent_size, n, i), get_answer(o, i));
     hold_rank(PART_RANK, o, v, i, image_part_rank(at, lent_size, n, v, i));
     hold_select(PART_SELECT, o, v, k, image_part_select(at, lent_size, n, v, k));
     give_back(part);
