@@ -7,7 +7,7 @@
 #include <stdlib.h>
 #include <string.h>
 
-enum { CAPACITY = 65536 };
+enum { CAPACITY = 1048576 };
 
 static uint64_t words[STRIP_WORDS(CAPACITY)];
 

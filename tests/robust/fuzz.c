@@ -13,7 +13,7 @@
 
 #include <inttypes.h>
 
-enum { PREFIX = 16, MOST = 65536 };
+enum { PREFIX = 16, MOST = 262144 };
 enum { INSPECT, RANK, SELECT, GET, LENGTH, LABEL, CALLS };
 
 static const char *const names[CALLS] = {"image_inspect", "image_row_rank",   "image_row_select",
