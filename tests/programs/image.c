@@ -7,13 +7,13 @@
 #include <stdlib.h>
 #include <string.h>
 
-enum { CAPACITY = 1048576 };
+enum { CAPACITY = 134217728 };
 
 static uint64_t words[STRIP_WORDS(CAPACITY)];
 
 static void fill(uint64_t length, uint64_t step)
 {
-    memset(words, 0, sizeof words);
+    memset(words, 0, (length + 63) / 64 * sizeof *words);
     for (uint64_t p = 0; step != 0 && p < length; p += step)
         words[p / 64] |= UINT64_C(1) << (p % 64);
 }

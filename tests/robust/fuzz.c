@@ -13,7 +13,8 @@
 
 #include <inttypes.h>
 
-enum { PREFIX = 16, MOST = 262144 };
+/* The most bytes of an image are those of one that the longest row fills. */
+enum { PREFIX = 16, MOST = 16 + 16 + 528 * 32768 };
 enum { INSPECT, RANK, SELECT, GET, LENGTH, LABEL, CALLS };
 
 static const char *const names[CALLS] = {"image_inspect", "image_row_rank",   "image_row_select",
