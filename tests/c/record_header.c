@@ -35,8 +35,8 @@ static void expect_handle(const char *call, uint64_t capacity, uint64_t length)
 }
 
 /* A reading: its value, or its refusal. */
-#define TOLD(call, value) expect(#call, call, 0, value, 0)
-#define REFUSED(call, refusal) expect(#call, call, refusal, 0, 0)
+#define VALUE(call, value) expect(#call, call, 0, value, 0)
+#define REFUSAL(call, refusal) expect(#call, call, refusal, 0, 0)
 
 /* A change: its values, with the length afterwards; or its refusal, and the handle as it was. */
 #define CHANGED(call, value, second, length) \
@@ -55,15 +55,15 @@ int main(void)
     expect_handle("record_over", 0, 0);
     KEPT(record_push(&record, 1), STRIP_BAD_HANDLE);
     KEPT(record_fill(&record, 0, 0, 0), STRIP_BAD_HANDLE);
-    REFUSED(record_rank(&record, 1, 0), STRIP_BAD_HANDLE);
-    REFUSED(record_verify(&record), STRIP_BAD_HANDLE);
+    REFUSAL(record_rank(&record, 1, 0), STRIP_BAD_HANDLE);
+    REFUSAL(record_verify(&record), STRIP_BAD_HANDLE);
     KEPT(record_create(&record, 513), STRIP_BAD_HANDLE);
 
     /* laid; the empty strip */
     CHANGED(record_create(&record, CAPACITY), 72, 0, 0);
-    TOLD(record_rank(&record, 0, 0), 0);
-    REFUSED(record_select(&record, 0, 0), STRIP_NOT_FOUND);
-    REFUSED(record_get(&record, 0), STRIP_POSITION);
+    VALUE(record_rank(&record, 0, 0), 0);
+    REFUSAL(record_select(&record, 0, 0), STRIP_NOT_FOUND);
+    REFUSAL(record_get(&record, 0), STRIP_POSITION);
 
     /* strip A, bit by bit: a one in the first block moves 15 counters, a zero none */
     for (uint64_t p = 0; p < strlen(a); p++)
@@ -72,20 +72,20 @@ int main(void)
     KEPT(record_push(&record, (UINT64_C(1) << 32) + 1), STRIP_BAD_VALUE);
 
     /* readings */
-    TOLD(record_get(&record, 1), 1);
-    REFUSED(record_get(&record, 17), STRIP_POSITION);
-    TOLD(record_rank(&record, 1, 8), 5);
-    TOLD(record_rank(&record, 1, 7), 4);
-    TOLD(record_rank(&record, 1, 17), 10);
-    REFUSED(record_rank(&record, 1, 18), STRIP_POSITION);
-    TOLD(record_select(&record, 1, 7), 13);
-    TOLD(record_select(&record, 1, 9), 15);
-    REFUSED(record_select(&record, 1, 10), STRIP_NOT_FOUND);
-    TOLD(record_successor(&record, 1, 8), 9);
-    REFUSED(record_successor(&record, 1, 16), STRIP_NOT_FOUND);
-    TOLD(record_predecessor(&record, 0, 16), 12);
-    REFUSED(record_predecessor(&record, 0, 18), STRIP_POSITION);
-    TOLD(record_verify(&record), 10);
+    VALUE(record_get(&record, 1), 1);
+    REFUSAL(record_get(&record, 17), STRIP_POSITION);
+    VALUE(record_rank(&record, 1, 8), 5);
+    VALUE(record_rank(&record, 1, 7), 4);
+    VALUE(record_rank(&record, 1, 17), 10);
+    REFUSAL(record_rank(&record, 1, 18), STRIP_POSITION);
+    VALUE(record_select(&record, 1, 7), 13);
+    VALUE(record_select(&record, 1, 9), 15);
+    REFUSAL(record_select(&record, 1, 10), STRIP_NOT_FOUND);
+    VALUE(record_successor(&record, 1, 8), 9);
+    REFUSAL(record_successor(&record, 1, 16), STRIP_NOT_FOUND);
+    VALUE(record_predecessor(&record, 0, 16), 12);
+    REFUSAL(record_predecessor(&record, 0, 18), STRIP_POSITION);
+    VALUE(record_verify(&record), 10);
 
     /* refused changes */
     KEPT(record_create(&record, 1024), STRIP_WORD_COUNT);
@@ -97,25 +97,25 @@ int main(void)
     KEPT(record_flip(&record, 0), STRIP_COUNTER_COUNT);
     KEPT(record_create(&record, CAPACITY), STRIP_COUNTER_COUNT);
     record.counters_len++;
-    TOLD(record_verify(&record), 10);
+    VALUE(record_verify(&record), 10);
 
     /* into an image and back */
-    TOLD(answer_of(image_clear(image, sizeof image)), 16);
-    REFUSED(answer_of(image_row_length(image, sizeof image, 3)), STRIP_LABEL_ABSENT);
-    REFUSED(record_freeze(&record, image, sizeof image - 1, 3), STRIP_NO_ROOM);
-    TOLD(record_freeze(&record, image, sizeof image, 3), 1);
-    REFUSED(record_freeze(&record, image, sizeof image, 3), STRIP_LABEL_PRESENT);
-    REFUSED(record_freeze(&record, image, sizeof image, 65), STRIP_BAD_LABEL);
-    TOLD(answer_of(image_inspect(image, sizeof image)), 1);
-    TOLD(answer_of(image_row_label(image, sizeof image, 0)), 3);
-    TOLD(answer_of(image_row_length(image, sizeof image, 3)), 17);
-    TOLD(answer_of(image_row_rank(image, sizeof image, 3, 1, 8)), 5);
+    VALUE(answer_of(image_clear(image, sizeof image)), 16);
+    REFUSAL(answer_of(image_row_length(image, sizeof image, 3)), STRIP_LABEL_ABSENT);
+    REFUSAL(record_freeze(&record, image, sizeof image - 1, 3), STRIP_NO_ROOM);
+    VALUE(record_freeze(&record, image, sizeof image, 3), 1);
+    REFUSAL(record_freeze(&record, image, sizeof image, 3), STRIP_LABEL_PRESENT);
+    REFUSAL(record_freeze(&record, image, sizeof image, 65), STRIP_BAD_LABEL);
+    VALUE(answer_of(image_inspect(image, sizeof image)), 1);
+    VALUE(answer_of(image_row_label(image, sizeof image, 0)), 3);
+    VALUE(answer_of(image_row_length(image, sizeof image, 3)), 17);
+    VALUE(answer_of(image_row_rank(image, sizeof image, 3, 1, 8)), 5);
 
     /* changes */
     CHANGED(record_flip(&record, 3), 1, 15, 17);
     CHANGED(record_flip(&record, 6), 1, 15, 17);
-    TOLD(record_rank(&record, 1, 8), 7);
-    TOLD(record_select(&record, 1, 7), 9);
+    VALUE(record_rank(&record, 1, 8), 7);
+    VALUE(record_select(&record, 1, 7), 9);
     CHANGED(record_fill(&record, 2, 9, 0), 6, 0, 17);
     CHANGED(record_truncate(&record, 12), 3, 0, 12);
     CHANGED(record_push(&record, 0), 12, 0, 13);
@@ -124,12 +124,12 @@ int main(void)
     for (uint64_t p = 13; p < CAPACITY; p++)
         CHANGED(record_push(&record, 1), p, 15, p + 1);
     KEPT(record_push(&record, 1), STRIP_FULL);
-    TOLD(record_verify(&record), 502);
+    VALUE(record_verify(&record), 502);
 
     /* a record that does not fit, and one laid anew */
     counters[40]++;
-    REFUSED(record_verify(&record), STRIP_UNFIT);
+    REFUSAL(record_verify(&record), STRIP_UNFIT);
     CHANGED(record_create(&record, CAPACITY), 72, 0, 0);
-    TOLD(record_verify(&record), 0);
+    VALUE(record_verify(&record), 0);
     return failed;
 }

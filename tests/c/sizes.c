@@ -1,10 +1,10 @@
 /* The sizes that the macros give, held to what the library tells and asks for, at every capacity and at the edges of
  * every record size; and the refusals by name. */
+#include "expect.h"
 #include "strips.h"
 
 #include <inttypes.h>
 #include <stdio.h>
-#include <stdlib.h>
 
 /* ---- Constant expressions. */
 
@@ -50,53 +50,51 @@ static uint8_t image[IMAGE_HEADER_BYTES + IMAGE_RECORD_BYTES(LARGEST) + 1];
 
 /* ---- Runs. */
 
-#define REFUSED(refusal) ((UINT64_C(1) << 32) + (refusal))
-
-static int failed = 0;
-
-static void expect(const char *what, uint64_t argument, uint64_t answer, uint64_t expected)
+/* What a call answers at this capacity or length. */
+static void expect_at(const char *what, uint64_t argument, uint64_t answer, uint64_t expected)
 {
+    char name[64];
     if (answer == expected)
         return;
-    printf("%s at %" PRIu64 ": %" PRIu64 ", expected %" PRIu64 "\n", what, argument, answer, expected);
-    failed = 1;
+    snprintf(name, sizeof name, "%s at %" PRIu64, what, argument);
+    expect(name, answer, expected);
 }
 
 /* A capacity that is allowed: the words and counters that the macros give are accepted, one less and one more not. */
 static void expect_allowed(uint64_t capacity)
 {
     size_t w = STRIP_WORDS(capacity), c = STRIP_COUNTERS(capacity);
-    expect("counters told", capacity, strip_counter_count(capacity), c);
-    expect("words and counters", capacity, strip_rank(capacity, 0, words, w, counters, c, 1, 0), 0);
-    expect("a word less", capacity, strip_rank(capacity, 0, words, w - 1, counters, c, 1, 0),
-           REFUSED(STRIP_WORD_COUNT));
-    expect("a word more", capacity, strip_rank(capacity, 0, words, w + 1, counters, c, 1, 0),
-           REFUSED(STRIP_WORD_COUNT));
-    expect("a counter less", capacity, strip_rank(capacity, 0, words, w, counters, c - 1, 1, 0),
-           REFUSED(STRIP_COUNTER_COUNT));
-    expect("a counter more", capacity, strip_rank(capacity, 0, words, w, counters, c + 1, 1, 0),
-           REFUSED(STRIP_COUNTER_COUNT));
+    expect_at("counters told", capacity, strip_counter_count(capacity), c);
+    expect_at("words and counters", capacity, strip_rank(capacity, 0, words, w, counters, c, 1, 0), 0);
+    expect_at("a word less", capacity, strip_rank(capacity, 0, words, w - 1, counters, c, 1, 0),
+              REFUSED(STRIP_WORD_COUNT));
+    expect_at("a word more", capacity, strip_rank(capacity, 0, words, w + 1, counters, c, 1, 0),
+              REFUSED(STRIP_WORD_COUNT));
+    expect_at("a counter less", capacity, strip_rank(capacity, 0, words, w, counters, c - 1, 1, 0),
+              REFUSED(STRIP_COUNTER_COUNT));
+    expect_at("a counter more", capacity, strip_rank(capacity, 0, words, w, counters, c + 1, 1, 0),
+              REFUSED(STRIP_COUNTER_COUNT));
 }
 
 static void expect_barred(uint64_t capacity)
 {
-    expect("counters told", capacity, strip_counter_count(capacity), REFUSED(STRIP_BAD_HANDLE));
+    expect_at("counters told", capacity, strip_counter_count(capacity), REFUSED(STRIP_BAD_HANDLE));
 }
 
 static void expect_record(uint64_t length)
 {
-    expect("bytes of a record", length, image_record_size(length), IMAGE_RECORD_BYTES(length));
+    expect_at("bytes of a record", length, image_record_size(length), IMAGE_RECORD_BYTES(length));
 }
 
 /* A row ends with an image of the size that the macros give, and not inside one of a byte less. */
 static void expect_row(uint64_t length)
 {
     size_t size = IMAGE_HEADER_BYTES + IMAGE_RECORD_BYTES(length);
-    expect("clear", length, image_clear(image, size), IMAGE_HEADER_BYTES);
-    expect("a byte less", length, image_freeze(LARGEST, length, words, STRIP_WORDS(LARGEST), image, size - 1, 1),
-           REFUSED(STRIP_NO_ROOM));
-    expect("room for a row", length, image_freeze(LARGEST, length, words, STRIP_WORDS(LARGEST), image, size, 1), 1);
-    expect("the byte after it", length, image[size], 0xa5);
+    expect_at("clear", length, image_clear(image, size), IMAGE_HEADER_BYTES);
+    expect_at("a byte less", length, image_freeze(LARGEST, length, words, STRIP_WORDS(LARGEST), image, size - 1, 1),
+              REFUSED(STRIP_NO_ROOM));
+    expect_at("room for a row", length, image_freeze(LARGEST, length, words, STRIP_WORDS(LARGEST), image, size, 1), 1);
+    expect_at("the byte after it", length, image[size], 0xa5);
 }
 
 int main(void)
@@ -141,7 +139,7 @@ int main(void)
                                       UINT64_MAX - 4095,
                                       UINT64_MAX};
     for (size_t k = 0; k < sizeof longer / sizeof *longer; k++)
-        expect("bytes of a record", longer[k], image_record_size(longer[k]), REFUSED(STRIP_POSITION));
+        expect_at("bytes of a record", longer[k], image_record_size(longer[k]), REFUSED(STRIP_POSITION));
 
     static const uint64_t rows[] = {0, 1, 512, 4095, 4096, 4097, 8192, 8193, LARGEST - 4096, LARGEST - 1, LARGEST};
     for (size_t k = 0; k < sizeof rows / sizeof *rows; k++) {
