@@ -37,20 +37,20 @@ static uint8_t image[IMAGE_HEADER_BYTES + 2 * IMAGE_RECORD_BYTES(WATCH)];
 
 typedef struct strip_answer answer;
 
-static answer lay(uint64_t capacity) { return record_create(&strip->record, capacity); }
-static answer add(uint64_t v) { return record_push(&strip->record, v); }
-static answer turn(uint64_t i) { return record_flip(&strip->record, i); }
-static answer run(uint64_t a, uint64_t b, uint64_t v) { return record_fill(&strip->record, a, b, v); }
-static answer cut(uint64_t n) { return record_truncate(&strip->record, n); }
-static answer look(uint64_t i) { return record_get(&strip->record, i); }
-static answer count(uint64_t v, uint64_t i) { return record_rank(&strip->record, v, i); }
-static answer find(uint64_t v, uint64_t k) { return record_select(&strip->record, v, k); }
-static answer next(uint64_t v, uint64_t i) { return record_successor(&strip->record, v, i); }
-static answer prior(uint64_t v, uint64_t i) { return record_predecessor(&strip->record, v, i); }
-static answer check(void) { return record_verify(&strip->record); }
-static answer clear(void) { return answer_of(image_clear(image, sizeof image)); }
-static answer freeze(uint64_t label) { return record_freeze(&strip->record, image, sizeof image, label); }
-static answer inspect(void) { return answer_of(image_inspect(image, sizeof image)); }
+static answer lay(uint64_t capacity) { return strip_record_create(&strip->record, capacity); }
+static answer add(uint64_t v) { return strip_record_push(&strip->record, v); }
+static answer turn(uint64_t i) { return strip_record_flip(&strip->record, i); }
+static answer run(uint64_t a, uint64_t b, uint64_t v) { return strip_record_fill(&strip->record, a, b, v); }
+static answer cut(uint64_t n) { return strip_record_truncate(&strip->record, n); }
+static answer look(uint64_t i) { return strip_record_get(&strip->record, i); }
+static answer count(uint64_t v, uint64_t i) { return strip_record_rank(&strip->record, v, i); }
+static answer find(uint64_t v, uint64_t k) { return strip_record_select(&strip->record, v, k); }
+static answer next(uint64_t v, uint64_t i) { return strip_record_successor(&strip->record, v, i); }
+static answer prior(uint64_t v, uint64_t i) { return strip_record_predecessor(&strip->record, v, i); }
+static answer check(void) { return strip_record_verify(&strip->record); }
+static answer clear(void) { return strip_answer_of(image_clear(image, sizeof image)); }
+static answer freeze(uint64_t label) { return strip_record_freeze(&strip->record, image, sizeof image, label); }
+static answer inspect(void) { return strip_answer_of(image_inspect(image, sizeof image)); }
 
 /* The answer of a call that has to be accepted; a refusal is told, and ends the program. */
 static answer must(const char *call, answer a)
@@ -97,14 +97,14 @@ static uint64_t record(void)
 {
     for (uint64_t p = 0; p < WATCH; p++)
         MUST(add(heard(p)));
-    return record_length(&strip->record);
+    return strip_record_length(&strip->record);
 }
 
 /* Turns each stroke that the pressure trace judges otherwise. Answers their number. */
 static uint64_t correct(void)
 {
     uint64_t turns = 0;
-    for (uint64_t p = 0; p < record_length(&strip->record); p++)
+    for (uint64_t p = 0; p < strip_record_length(&strip->record); p++)
         if (MUST(look(p)).value != misfired(p)) {
             strip->moved += MUST(turn(p)).second;
             turns++;
@@ -170,7 +170,8 @@ int main(int arguments, char **words)
         return 2;
     }
     for (strip = strips; strip < strips + 2; strip++)
-        strip->record = record_over(strip->words, STRIP_WORDS(CAPACITY), strip->counters, STRIP_COUNTERS(CAPACITY));
+        strip->record =
+            strip_record_over(strip->words, STRIP_WORDS(CAPACITY), strip->counters, STRIP_COUNTERS(CAPACITY));
     strip = strips;
 
     printf("A watch of four hours: 45000 strokes an hour, a bit for each stroke of a cylinder, 1 is a misfire.\n");

@@ -1,8 +1,8 @@
 /* The proved calls that read an image of frozen rows, and the refusals of all calls.
  *
  * libdisplay.a has these six functions and nothing else. libstrips.a has them too, beside those of strips.h, which
- * includes this header. A program links one of the two libraries. A call's comment starts with its name in the scope
- * document, as row count(v, i), if it has one there.
+ * includes this header. A program links one of the two libraries, which are object code for x86-64. The comment of a
+ * call begins with the bench's word for it, as row count(v, i); docs/CALLS.md has all of them.
  *
  * AN IMAGE is a run of bytes that holds up to 64 rows. A ROW is a strip that was frozen: a list of bits, position 0
  * first, of a length from 0 to 134,217,728, under a label from 1 to 64. 1 is a misfire, 0 a good firing. The rows
@@ -10,11 +10,11 @@
  * end, so that chain order is the order of freezing. A record also holds the row's number of ones and an index of
  * counts, its entries; its bits are padded with zeros to a multiple of 4,096.
  *
- * The chain is SOUND when the image has 16 to 2^32 bytes, its header is right, every record lies inside the image,
- * every label and length is in range, no label occurs twice, and every next record starts at or past the end of the
- * one before it. What lies between records is not read. A row is RIGHT when its number of ones, its entries and its
+ * The chain is SOUND when all of this holds: the size is 16 to 2^32 bytes; the header is right; no record reaches out
+ * of the image; labels and lengths are in range; no label occurs twice; a record that follows another starts at or
+ * past its end. What lies between records is not read. A row is RIGHT when its number of ones, its entries and its
  * padding are those of its bits, else WRONG. Where image_inspect accepts an image, its chain is sound and every row
- * is right.
+ * is right. There is no checksum: an image that was changed may agree with itself again.
  *
  * LENDING. A call is lent the bytes image[0] to image[image_len - 1], at any address, and only reads them. Nobody
  * changes them until it returns. It allocates nothing and keeps nothing. Any bytes may be lent, of any length: what
@@ -25,15 +25,17 @@
  * neither 0 nor 1, a label of 2^32 + 3 as none from 1 to 64, an i of 2^64 - 1 as a position above the length.
  *
  * ANSWERS. A call answers its value, which is below 2^32, or 2^32 plus the number of a refusal: see STRIP_REFUSED.
- * The refusals of a call are named with it in the order in which they are judged, and the first that applies is
- * given. After a semicolon stands what depends on the bytes of the row itself. Below each call stands what the inputs
+ * Keep an answer in a uint64_t: cut to 32 bits, a refusal looks like a small value. The refusals of a call are named
+ * with it in the order in which they are judged, and the first that applies is given (but see image_row_select on a
+ * wrong row). After a semicolon stands the refusal that only a wrong row gets. Below each call stands what the inputs
  * at its edges get: a value, or "refused" with the number.
  *
  * TIME. Every call walks the chain, over 12 bytes of each record. Then image_inspect reads every record whole,
- * image_row_select searches by halving, and the others take constant time.
+ * image_row_select searches by halving, image_row_label walks the chain again up to the k-th record, and the others
+ * take constant time.
  */
-#ifndef DISPLAY_H
-#define DISPLAY_H
+#ifndef STRIP_DISPLAY_H
+#define STRIP_DISPLAY_H
 
 #include <stddef.h>
 #include <stdint.h>
@@ -45,8 +47,8 @@ extern "C" {
 /* Why a call is refused. A length is that of the strip or of the row. */
 enum strip_refusal {
     STRIP_BAD_HANDLE = 1,     /* capacity not a multiple of 512 from 512 to 134,217,728, or length above capacity */
-    STRIP_WORD_COUNT = 2,     /* words_len not capacity / 64 */
-    STRIP_COUNTER_COUNT = 3,  /* counters_len not the number that the capacity needs */
+    STRIP_BAD_WORDS = 2,      /* words_len not capacity / 64 */
+    STRIP_BAD_COUNTERS = 3,   /* counters_len not the number that the capacity needs */
     STRIP_POSITION = 4,       /* a position above the length; for a get or a flip also at the length.
                                  image_record_size: a length above 134,217,728 */
     STRIP_SPAN = 5,           /* a span whose start is above its end */
@@ -66,7 +68,8 @@ enum strip_refusal {
 /* Whether an answer is a refusal. Evaluates its argument once. */
 #define STRIP_REFUSED(answer) ((uint64_t)(answer) >= UINT64_C(4294967296))
 
-/* The refusal, as an enum strip_refusal; of an accepted answer it means nothing. Evaluates its argument once. */
+/* The refusal, as an enum strip_refusal. Of an accepted answer it means nothing: a value of 6 would look like
+ * STRIP_NOT_FOUND. Evaluates its argument once. */
 #define STRIP_REFUSAL(answer) ((enum strip_refusal)(uint32_t)(answer))
 
 /* inspect.

@@ -2,20 +2,21 @@
  *
  * NOT PROVED: these are plain inline functions, which pass a record on to the proved calls of strips.h and take the
  * handle over that a change gives back. strips.h says what each call does, what it refuses and what may be lent. A
- * refused change leaves the record as it was, its handle too. Nothing is allocated.
+ * refused change leaves the record as it was, its handle too. A copy of a record does not follow the changes of the
+ * other. Nothing is allocated.
  *
  *     static uint64_t words[STRIP_WORDS(512)];
  *     static uint32_t counters[STRIP_COUNTERS(512)];
- *     struct strip_record r = record_over(words, STRIP_WORDS(512), counters, STRIP_COUNTERS(512));
- *     if (record_create(&r, 512).refusal == 0 && record_push(&r, 1).refusal == 0)
- *         misfires = record_rank(&r, 1, record_length(&r)).value;
+ *     struct strip_record r = strip_record_over(words, STRIP_WORDS(512), counters, STRIP_COUNTERS(512));
+ *     if (strip_record_create(&r, 512).refusal == 0 && strip_record_push(&r, 1).refusal == 0)
+ *         misfires = strip_record_rank(&r, 1, strip_record_length(&r)).value;
  */
 #ifndef STRIP_RECORD_H
 #define STRIP_RECORD_H
 
 #include "strips.h"
 
-/* What it holds may grow; record_capacity and record_length read it. */
+/* What it holds may grow; strip_record_capacity and strip_record_length read it. */
 struct strip_handle {
     uint64_t capacity, length;
 };
@@ -33,21 +34,30 @@ struct strip_answer {
     uint64_t refusal, value, second;
 };
 
-/* A record over these buffers, of which nothing is read yet. Up to an accepted record_create every call on it is
- * refused by STRIP_BAD_HANDLE. */
-static inline struct strip_record record_over(uint64_t *words, size_t words_len, uint32_t *counters,
-                                              size_t counters_len)
+/* A record over these buffers, of which nothing is read yet. Up to an accepted strip_record_create every other call
+ * on it is refused by STRIP_BAD_HANDLE. */
+static inline struct strip_record strip_record_over(uint64_t *words, size_t words_len, uint32_t *counters,
+                                                    size_t counters_len)
 {
     struct strip_record r = {{0, 0}, words, words_len, counters, counters_len};
     return r;
 }
 
-static inline uint64_t record_capacity(const struct strip_record *r) { return r->handle.capacity; }
+/* A record over buffers that hold a strip already, under the handle that was kept with them, as after a reset.
+ * strip_record_verify tells whether it fits. */
+static inline struct strip_record strip_record_resume(struct strip_handle handle, uint64_t *words, size_t words_len,
+                                                      uint32_t *counters, size_t counters_len)
+{
+    struct strip_record r = {handle, words, words_len, counters, counters_len};
+    return r;
+}
 
-static inline uint64_t record_length(const struct strip_record *r) { return r->handle.length; }
+static inline uint64_t strip_record_capacity(const struct strip_record *r) { return r->handle.capacity; }
 
-/* The answer of a call that takes no record, as answer_of(image_inspect(image, image_len)). */
-static inline struct strip_answer answer_of(uint64_t answer)
+static inline uint64_t strip_record_length(const struct strip_record *r) { return r->handle.length; }
+
+/* The answer of a call that takes no record, as strip_answer_of(image_inspect(image, image_len)). */
+static inline struct strip_answer strip_answer_of(uint64_t answer)
 {
     struct strip_answer a = {0, 0, 0};
     if (STRIP_REFUSED(answer))
@@ -58,7 +68,7 @@ static inline struct strip_answer answer_of(uint64_t answer)
 }
 
 /* The answer of a change, by the numbers that it wrote. Accepted, the record goes on with the handle given. */
-static inline struct strip_answer record_changed(struct strip_record *r, const uint64_t *out)
+static inline struct strip_answer strip_record_changed(struct strip_record *r, const uint64_t *out)
 {
     struct strip_answer a = {out[0], out[1], out[2]};
     if (a.refusal == 0) {
@@ -74,77 +84,77 @@ static inline struct strip_answer record_changed(struct strip_record *r, const u
 
 /* ---- Changes. */
 
-static inline struct strip_answer record_create(struct strip_record *r, uint64_t capacity)
+static inline struct strip_answer strip_record_create(struct strip_record *r, uint64_t capacity)
 {
     uint64_t out[STRIP_OUT];
     strip_create(capacity, r->words, r->words_len, r->counters, r->counters_len, out, STRIP_OUT);
-    return record_changed(r, out);
+    return strip_record_changed(r, out);
 }
 
-static inline struct strip_answer record_push(struct strip_record *r, uint64_t v)
+static inline struct strip_answer strip_record_push(struct strip_record *r, uint64_t v)
 {
     uint64_t out[STRIP_OUT];
     strip_push(STRIP_RECORD_WHOLE, v, out, STRIP_OUT);
-    return record_changed(r, out);
+    return strip_record_changed(r, out);
 }
 
-static inline struct strip_answer record_flip(struct strip_record *r, uint64_t i)
+static inline struct strip_answer strip_record_flip(struct strip_record *r, uint64_t i)
 {
     uint64_t out[STRIP_OUT];
     strip_flip(STRIP_RECORD_WHOLE, i, out, STRIP_OUT);
-    return record_changed(r, out);
+    return strip_record_changed(r, out);
 }
 
-static inline struct strip_answer record_fill(struct strip_record *r, uint64_t a, uint64_t b, uint64_t v)
+static inline struct strip_answer strip_record_fill(struct strip_record *r, uint64_t a, uint64_t b, uint64_t v)
 {
     uint64_t out[STRIP_OUT];
     strip_fill(STRIP_RECORD_WHOLE, a, b, v, out, STRIP_OUT);
-    return record_changed(r, out);
+    return strip_record_changed(r, out);
 }
 
-static inline struct strip_answer record_truncate(struct strip_record *r, uint64_t n)
+static inline struct strip_answer strip_record_truncate(struct strip_record *r, uint64_t n)
 {
     uint64_t out[STRIP_OUT];
     strip_truncate(STRIP_RECORD_WHOLE, n, out, STRIP_OUT);
-    return record_changed(r, out);
+    return strip_record_changed(r, out);
 }
 
 /* ---- Readings, and freezing into an image. */
 
-static inline struct strip_answer record_get(const struct strip_record *r, uint64_t i)
+static inline struct strip_answer strip_record_get(const struct strip_record *r, uint64_t i)
 {
-    return answer_of(strip_get(STRIP_RECORD_WORDS, i));
+    return strip_answer_of(strip_get(STRIP_RECORD_WORDS, i));
 }
 
-static inline struct strip_answer record_rank(const struct strip_record *r, uint64_t v, uint64_t i)
+static inline struct strip_answer strip_record_rank(const struct strip_record *r, uint64_t v, uint64_t i)
 {
-    return answer_of(strip_rank(STRIP_RECORD_WHOLE, v, i));
+    return strip_answer_of(strip_rank(STRIP_RECORD_WHOLE, v, i));
 }
 
-static inline struct strip_answer record_select(const struct strip_record *r, uint64_t v, uint64_t k)
+static inline struct strip_answer strip_record_select(const struct strip_record *r, uint64_t v, uint64_t k)
 {
-    return answer_of(strip_select(STRIP_RECORD_WHOLE, v, k));
+    return strip_answer_of(strip_select(STRIP_RECORD_WHOLE, v, k));
 }
 
-static inline struct strip_answer record_successor(const struct strip_record *r, uint64_t v, uint64_t i)
+static inline struct strip_answer strip_record_successor(const struct strip_record *r, uint64_t v, uint64_t i)
 {
-    return answer_of(strip_successor(STRIP_RECORD_WORDS, v, i));
+    return strip_answer_of(strip_successor(STRIP_RECORD_WORDS, v, i));
 }
 
-static inline struct strip_answer record_predecessor(const struct strip_record *r, uint64_t v, uint64_t i)
+static inline struct strip_answer strip_record_predecessor(const struct strip_record *r, uint64_t v, uint64_t i)
 {
-    return answer_of(strip_predecessor(STRIP_RECORD_WORDS, v, i));
+    return strip_answer_of(strip_predecessor(STRIP_RECORD_WORDS, v, i));
 }
 
-static inline struct strip_answer record_verify(const struct strip_record *r)
+static inline struct strip_answer strip_record_verify(const struct strip_record *r)
 {
-    return answer_of(strip_verify(STRIP_RECORD_WHOLE));
+    return strip_answer_of(strip_verify(STRIP_RECORD_WHOLE));
 }
 
-static inline struct strip_answer record_freeze(const struct strip_record *r, uint8_t *image, size_t image_len,
-                                                uint64_t label)
+static inline struct strip_answer strip_record_freeze(const struct strip_record *r, uint8_t *image, size_t image_len,
+                                                      uint64_t label)
 {
-    return answer_of(image_freeze(STRIP_RECORD_WORDS, image, image_len, label));
+    return strip_answer_of(image_freeze(STRIP_RECORD_WORDS, image, image_len, label));
 }
 
 #undef STRIP_RECORD_WORDS

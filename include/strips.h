@@ -1,13 +1,13 @@
 /* The proved calls on a strip and on an image of frozen rows, as in libstrips.a. display.h has the refusals, how an
- * answer tells one, and the calls that read an image; this header has the others. A call's comment starts with its
- * name in the scope document, as add(v), if it has one there.
+ * answer tells one, and the calls that read an image; this header has the others. The comment of a call begins
+ * with the bench's word for it, as add(v); docs/CALLS.md has all of them.
  *
- * A STRIP is a list of bits, position 0 first; 1 is a misfire, 0 a good firing. Its capacity is a multiple of 512,
- * from 512 to 134,217,728, and its length is at most its capacity.
+ * A STRIP holds one bit for each stroke, the oldest at position 0: 1 for a misfire, 0 for a good firing. Capacities
+ * are the multiples of 512 up to 134,217,728, 0 excluded; a length is at most its capacity.
  *
  * A RECORD is the memory of a strip: STRIP_WORDS(capacity) words and STRIP_COUNTERS(capacity) counters, which the
  * caller supplies, and of which each call is lent exactly so many. Position p is bit p % 64 of words[p / 64], where
- * bit 0 has weight 1. The counters tell how many ones lie before a place, and only the calls read and write them. A
+ * bit 0 has weight 1. The counters tell how many ones lie in which blocks, and only the calls read and write them. A
  * record FITS when every bit at and past the length is 0 and every counter is that of the bits. Where accepted,
  * strip_create, strip_fill and strip_truncate always leave a record that fits; strip_push and strip_flip do where it
  * fitted before. (The record of a row, in an image, is another thing: see display.h.)
@@ -24,13 +24,14 @@
  * NUMBERS. Every argument is taken as the 64-bit number that it is, and none is cut: a v of 2^32 + 1 is refused 8, a
  * capacity of 2^32 + 512 is refused 1.
  *
- * REFUSALS are named with each call in the order in which they are judged, and the first that applies is given. A
- * refused call changes no word, no counter and no byte of an image. Of every call that takes a record or its words:
- *   1   capacity not a multiple of 512 from 512 to 134,217,728, as 0, or a length above the capacity
+ * REFUSALS are named with each call in the order in which they are judged, and the first that applies is given (but
+ * see strip_select on a record that does not fit). A refused call changes no word, no counter and no byte of an image.
+ * Of every call that takes a record or its words:
+ *   1   capacity not a multiple of 512 from 512 to 134,217,728, such as 0, or a length above it
  *   2   words_len not capacity / 64; NULL, 0 is always too few
  *   3   counters_len, where counters are taken, not STRIP_COUNTERS(capacity); NULL, 0 is always too few
- * After a semicolon stands what depends on the record's contents. Below each call stands what the inputs at its edges
- * get: a value, or "refused" with the number.
+ * After a semicolon stands the refusal that only a record that does not fit gets. Below each call stands what the
+ * inputs at its edges get: a value, or "refused" with the number.
  *
  * TIME. strip_create, strip_fill, strip_truncate and strip_verify go over all words and counters, strip_successor and
  * strip_predecessor from word to word up to the first hit, image_freeze over the words up to the length. The other
@@ -46,7 +47,7 @@ extern "C" {
 #endif
 
 /* ---- Sizes. The macros are constant expressions where their argument is one; STRIP_COUNTERS evaluates it more than
- * once. They judge nothing: of a capacity that is not allowed, or a length above 134,217,728, they mean nothing. */
+ * once, and none may stand in #if. They judge nothing: of a capacity that is not allowed, or a length above 134,217,728, they mean nothing. */
 
 /* The numbers that a change writes to `out`. */
 #define STRIP_OUT 5
@@ -69,9 +70,11 @@ extern "C" {
 
 /* Value: STRIP_COUNTERS(capacity).
  * Refusals: 1.
- *   capacity 512              72
- *   capacity 134,217,728      299,592
- *   capacity 0, 513           refused 1 */
+ *   capacity 512, 32,768             72
+ *   capacity 33,280                  216
+ *   capacity 2,097,664               4,896
+ *   capacity 134,217,728             299,592
+ *   capacity 0, 513, 2^32 + 512      refused 1 */
 uint64_t strip_counter_count(uint64_t capacity);
 
 /* Value: IMAGE_RECORD_BYTES(length).
@@ -94,7 +97,10 @@ uint64_t image_record_size(uint64_t length);
 /* lay(capacity). Makes every word and every counter 0, whatever they held, and gives the handle of the empty strip of
  * that capacity.
  * Value: the number of counters.
- * Refusals: 1, 2, 3. The record then stands as it was, and goes on under its last handle. */
+ * Refusals: 1, 2, 3. The record then stands as it was, and goes on under its last handle.
+ *   capacity 0, 513, 134,218,240                   refused 1
+ *   words and counters of another capacity         refused 2
+ *   a record in use, or one that does not fit      emptied, as any other */
 void strip_create(uint64_t capacity, uint64_t *words, size_t words_len, uint32_t *counters, size_t counters_len,
                   uint64_t *out, size_t out_len);
 
@@ -215,6 +221,7 @@ uint64_t strip_verify(uint64_t capacity, uint64_t length, const uint64_t *words,
 /* clear. Makes an image with no row: writes its first 16 bytes, whatever the image held, and no other byte.
  * Value: 16, the bytes written.
  * Refusals: 13.
+ *   exactly 16 bytes                                     accepted, with room for no row
  *   NULL, 0 or any image under 16 or over 2^32 bytes     refused 13 */
 uint64_t image_clear(uint8_t *image, size_t image_len);
 

@@ -26,8 +26,8 @@ static void freeze(uint8_t *image) {
     expect("clear", image_clear(image, 560), 16);
     expect("open of an empty chain", image_open(image, 560, 3), REFUSED(STRIP_LABEL_ABSENT));
     expect("freeze, capacity 513", image_freeze(513, 5, words, 8, image, 560, 3), REFUSED(STRIP_BAD_HANDLE));
-    expect("freeze, seven words", image_freeze(512, 5, words, 7, image, 560, 3), REFUSED(STRIP_WORD_COUNT));
-    expect("freeze, no words", image_freeze(512, 5, NULL, 0, image, 560, 3), REFUSED(STRIP_WORD_COUNT));
+    expect("freeze, seven words", image_freeze(512, 5, words, 7, image, 560, 3), REFUSED(STRIP_BAD_WORDS));
+    expect("freeze, no words", image_freeze(512, 5, NULL, 0, image, 560, 3), REFUSED(STRIP_BAD_WORDS));
     expect("freeze on no bytes", image_freeze(512, 5, words, 8, NULL, 0, 3), REFUSED(STRIP_UNSOUND));
     expect("freeze, label 65", image_freeze(512, 5, words, 8, image, 560, 65), REFUSED(STRIP_BAD_LABEL));
     expect("freeze on 559 bytes", image_freeze(512, 5, words, 8, image, 559, 3), REFUSED(STRIP_NO_ROOM));

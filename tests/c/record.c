@@ -143,12 +143,12 @@ int main(void)
     EXPECT(rank_of(0, 0), 0);
     EXPECT(select_of(0, 0), REFUSED(STRIP_NOT_FOUND));
     EXPECT(create(513, 1), REFUSED(STRIP_BAD_HANDLE));
-    EXPECT(create(1024, 1), REFUSED(STRIP_WORD_COUNT));
+    EXPECT(create(1024, 1), REFUSED(STRIP_BAD_WORDS));
     counters_len = 71;
-    EXPECT(create(512, 1), REFUSED(STRIP_COUNTER_COUNT));
+    EXPECT(create(512, 1), REFUSED(STRIP_BAD_COUNTERS));
     EXPECT(out[3] + out[4], 0);
     counters_len = 72;
-    EXPECT(strip_rank(512, 0, NULL, 0, NULL, 0, 2, 1), REFUSED(STRIP_WORD_COUNT));
+    EXPECT(strip_rank(512, 0, NULL, 0, NULL, 0, 2, 1), REFUSED(STRIP_BAD_WORDS));
     EXPECT(strip_verify(0, 0, NULL, 0, NULL, 0), REFUSED(STRIP_BAD_HANDLE));
 
     /* too short an `out`, or none: nothing happens */

@@ -27,10 +27,10 @@ static void expect(const char *call, struct strip_answer told, uint64_t refusal,
 
 static void expect_handle(const char *call, uint64_t capacity, uint64_t length)
 {
-    if (record_capacity(&record) == capacity && record_length(&record) == length)
+    if (strip_record_capacity(&record) == capacity && strip_record_length(&record) == length)
         return;
-    printf("after %s: capacity %" PRIu64 ", ", call, record_capacity(&record));
-    printf("length %" PRIu64 "\n", record_length(&record));
+    printf("after %s: capacity %" PRIu64 ", ", call, strip_record_capacity(&record));
+    printf("length %" PRIu64 "\n", strip_record_length(&record));
     failed = 1;
 }
 
@@ -41,95 +41,100 @@ static void expect_handle(const char *call, uint64_t capacity, uint64_t length)
 /* A change: its values, with the length afterwards; or its refusal, and the handle as it was. */
 #define CHANGED(call, value, second, length) \
     (expect(#call, call, 0, value, second), expect_handle(#call, CAPACITY, length))
-#define KEPT(call, refusal)                                   \
-    do {                                                      \
-        struct strip_handle before = record.handle;           \
-        expect(#call, call, refusal, 0, 0);                   \
-        expect_handle(#call, before.capacity, before.length); \
+#define KEPT(call, refusal)                                                                            \
+    do {                                                                                               \
+        uint64_t capacity = strip_record_capacity(&record), length = strip_record_length(&record);     \
+        expect(#call, call, refusal, 0, 0);                                                            \
+        expect_handle(#call, capacity, length);                                                        \
     } while (0)
 
 int main(void)
 {
-    /* not laid yet: every call is refused by 1 */
-    record = record_over(words, STRIP_WORDS(CAPACITY), counters, STRIP_COUNTERS(CAPACITY));
-    expect_handle("record_over", 0, 0);
-    KEPT(record_push(&record, 1), STRIP_BAD_HANDLE);
-    KEPT(record_fill(&record, 0, 0, 0), STRIP_BAD_HANDLE);
-    REFUSAL(record_rank(&record, 1, 0), STRIP_BAD_HANDLE);
-    REFUSAL(record_verify(&record), STRIP_BAD_HANDLE);
-    KEPT(record_create(&record, 513), STRIP_BAD_HANDLE);
+    /* not laid yet: every other call is refused by 1 */
+    record = strip_record_over(words, STRIP_WORDS(CAPACITY), counters, STRIP_COUNTERS(CAPACITY));
+    expect_handle("strip_record_over", 0, 0);
+    KEPT(strip_record_push(&record, 1), STRIP_BAD_HANDLE);
+    KEPT(strip_record_fill(&record, 0, 0, 0), STRIP_BAD_HANDLE);
+    REFUSAL(strip_record_rank(&record, 1, 0), STRIP_BAD_HANDLE);
+    REFUSAL(strip_record_verify(&record), STRIP_BAD_HANDLE);
+    KEPT(strip_record_create(&record, 513), STRIP_BAD_HANDLE);
 
     /* laid; the empty strip */
-    CHANGED(record_create(&record, CAPACITY), 72, 0, 0);
-    VALUE(record_rank(&record, 0, 0), 0);
-    REFUSAL(record_select(&record, 0, 0), STRIP_NOT_FOUND);
-    REFUSAL(record_get(&record, 0), STRIP_POSITION);
+    CHANGED(strip_record_create(&record, CAPACITY), 72, 0, 0);
+    VALUE(strip_record_rank(&record, 0, 0), 0);
+    REFUSAL(strip_record_select(&record, 0, 0), STRIP_NOT_FOUND);
+    REFUSAL(strip_record_get(&record, 0), STRIP_POSITION);
 
     /* strip A, bit by bit: a one in the first block moves 15 counters, a zero none */
     for (uint64_t p = 0; p < strlen(a); p++)
-        CHANGED(record_push(&record, a[p] == '1'), p, a[p] == '1' ? 15 : 0, p + 1);
-    KEPT(record_push(&record, 2), STRIP_BAD_VALUE);
-    KEPT(record_push(&record, (UINT64_C(1) << 32) + 1), STRIP_BAD_VALUE);
+        CHANGED(strip_record_push(&record, a[p] == '1'), p, a[p] == '1' ? 15 : 0, p + 1);
+    KEPT(strip_record_push(&record, 2), STRIP_BAD_VALUE);
+    KEPT(strip_record_push(&record, (UINT64_C(1) << 32) + 1), STRIP_BAD_VALUE);
 
     /* readings */
-    VALUE(record_get(&record, 1), 1);
-    REFUSAL(record_get(&record, 17), STRIP_POSITION);
-    VALUE(record_rank(&record, 1, 8), 5);
-    VALUE(record_rank(&record, 1, 7), 4);
-    VALUE(record_rank(&record, 1, 17), 10);
-    REFUSAL(record_rank(&record, 1, 18), STRIP_POSITION);
-    VALUE(record_select(&record, 1, 7), 13);
-    VALUE(record_select(&record, 1, 9), 15);
-    REFUSAL(record_select(&record, 1, 10), STRIP_NOT_FOUND);
-    VALUE(record_successor(&record, 1, 8), 9);
-    REFUSAL(record_successor(&record, 1, 16), STRIP_NOT_FOUND);
-    VALUE(record_predecessor(&record, 0, 16), 12);
-    REFUSAL(record_predecessor(&record, 0, 18), STRIP_POSITION);
-    VALUE(record_verify(&record), 10);
+    VALUE(strip_record_get(&record, 1), 1);
+    REFUSAL(strip_record_get(&record, 17), STRIP_POSITION);
+    VALUE(strip_record_rank(&record, 1, 8), 5);
+    VALUE(strip_record_rank(&record, 1, 7), 4);
+    VALUE(strip_record_rank(&record, 1, 17), 10);
+    REFUSAL(strip_record_rank(&record, 1, 18), STRIP_POSITION);
+    VALUE(strip_record_select(&record, 1, 7), 13);
+    VALUE(strip_record_select(&record, 1, 9), 15);
+    REFUSAL(strip_record_select(&record, 1, 10), STRIP_NOT_FOUND);
+    VALUE(strip_record_successor(&record, 1, 8), 9);
+    REFUSAL(strip_record_successor(&record, 1, 16), STRIP_NOT_FOUND);
+    VALUE(strip_record_predecessor(&record, 0, 16), 12);
+    REFUSAL(strip_record_predecessor(&record, 0, 18), STRIP_POSITION);
+    VALUE(strip_record_verify(&record), 10);
 
     /* refused changes */
-    KEPT(record_create(&record, 1024), STRIP_WORD_COUNT);
-    KEPT(record_flip(&record, 17), STRIP_POSITION);
-    KEPT(record_fill(&record, 3, 2, 1), STRIP_SPAN);
-    KEPT(record_fill(&record, 3, 18, 1), STRIP_POSITION);
-    KEPT(record_truncate(&record, 18), STRIP_POSITION);
+    KEPT(strip_record_create(&record, 1024), STRIP_BAD_WORDS);
+    KEPT(strip_record_flip(&record, 17), STRIP_POSITION);
+    KEPT(strip_record_fill(&record, 3, 2, 1), STRIP_SPAN);
+    KEPT(strip_record_fill(&record, 3, 18, 1), STRIP_POSITION);
+    KEPT(strip_record_truncate(&record, 18), STRIP_POSITION);
     record.counters_len--;
-    KEPT(record_flip(&record, 0), STRIP_COUNTER_COUNT);
-    KEPT(record_create(&record, CAPACITY), STRIP_COUNTER_COUNT);
+    KEPT(strip_record_flip(&record, 0), STRIP_BAD_COUNTERS);
+    KEPT(strip_record_create(&record, CAPACITY), STRIP_BAD_COUNTERS);
     record.counters_len++;
-    VALUE(record_verify(&record), 10);
+    VALUE(strip_record_verify(&record), 10);
 
     /* into an image and back */
-    VALUE(answer_of(image_clear(image, sizeof image)), 16);
-    REFUSAL(answer_of(image_row_length(image, sizeof image, 3)), STRIP_LABEL_ABSENT);
-    REFUSAL(record_freeze(&record, image, sizeof image - 1, 3), STRIP_NO_ROOM);
-    VALUE(record_freeze(&record, image, sizeof image, 3), 1);
-    REFUSAL(record_freeze(&record, image, sizeof image, 3), STRIP_LABEL_PRESENT);
-    REFUSAL(record_freeze(&record, image, sizeof image, 65), STRIP_BAD_LABEL);
-    VALUE(answer_of(image_inspect(image, sizeof image)), 1);
-    VALUE(answer_of(image_row_label(image, sizeof image, 0)), 3);
-    VALUE(answer_of(image_row_length(image, sizeof image, 3)), 17);
-    VALUE(answer_of(image_row_rank(image, sizeof image, 3, 1, 8)), 5);
+    VALUE(strip_answer_of(image_clear(image, sizeof image)), 16);
+    REFUSAL(strip_answer_of(image_row_length(image, sizeof image, 3)), STRIP_LABEL_ABSENT);
+    REFUSAL(strip_record_freeze(&record, image, sizeof image - 1, 3), STRIP_NO_ROOM);
+    VALUE(strip_record_freeze(&record, image, sizeof image, 3), 1);
+    REFUSAL(strip_record_freeze(&record, image, sizeof image, 3), STRIP_LABEL_PRESENT);
+    REFUSAL(strip_record_freeze(&record, image, sizeof image, 65), STRIP_BAD_LABEL);
+    VALUE(strip_answer_of(image_inspect(image, sizeof image)), 1);
+    VALUE(strip_answer_of(image_row_label(image, sizeof image, 0)), 3);
+    VALUE(strip_answer_of(image_row_length(image, sizeof image, 3)), 17);
+    VALUE(strip_answer_of(image_row_rank(image, sizeof image, 3, 1, 8)), 5);
 
     /* changes */
-    CHANGED(record_flip(&record, 3), 1, 15, 17);
-    CHANGED(record_flip(&record, 6), 1, 15, 17);
-    VALUE(record_rank(&record, 1, 8), 7);
-    VALUE(record_select(&record, 1, 7), 9);
-    CHANGED(record_fill(&record, 2, 9, 0), 6, 0, 17);
-    CHANGED(record_truncate(&record, 12), 3, 0, 12);
-    CHANGED(record_push(&record, 0), 12, 0, 13);
+    CHANGED(strip_record_flip(&record, 3), 1, 15, 17);
+    CHANGED(strip_record_flip(&record, 6), 1, 15, 17);
+    VALUE(strip_record_rank(&record, 1, 8), 7);
+    VALUE(strip_record_select(&record, 1, 7), 9);
+    CHANGED(strip_record_fill(&record, 2, 9, 0), 6, 0, 17);
+    CHANGED(strip_record_truncate(&record, 12), 3, 0, 12);
+    CHANGED(strip_record_push(&record, 0), 12, 0, 13);
+
+    /* the same buffers, under the handle that was kept */
+    record = strip_record_resume(record.handle, words, STRIP_WORDS(CAPACITY), counters, STRIP_COUNTERS(CAPACITY));
+    expect_handle("strip_record_resume", CAPACITY, 13);
+    VALUE(strip_record_verify(&record), 3);
 
     /* a full strip */
     for (uint64_t p = 13; p < CAPACITY; p++)
-        CHANGED(record_push(&record, 1), p, 15, p + 1);
-    KEPT(record_push(&record, 1), STRIP_FULL);
-    VALUE(record_verify(&record), 502);
+        CHANGED(strip_record_push(&record, 1), p, 15, p + 1);
+    KEPT(strip_record_push(&record, 1), STRIP_FULL);
+    VALUE(strip_record_verify(&record), 502);
 
     /* a record that does not fit, and one laid anew */
     counters[40]++;
-    REFUSAL(record_verify(&record), STRIP_UNFIT);
-    CHANGED(record_create(&record, CAPACITY), 72, 0, 0);
-    VALUE(record_verify(&record), 0);
+    REFUSAL(strip_record_verify(&record), STRIP_UNFIT);
+    CHANGED(strip_record_create(&record, CAPACITY), 72, 0, 0);
+    VALUE(strip_record_verify(&record), 0);
     return failed;
 }

@@ -12,8 +12,8 @@
 #define LARGEST 134217728
 
 _Static_assert(STRIP_BAD_HANDLE == 1, "refusal 1");
-_Static_assert(STRIP_WORD_COUNT == 2, "refusal 2");
-_Static_assert(STRIP_COUNTER_COUNT == 3, "refusal 3");
+_Static_assert(STRIP_BAD_WORDS == 2, "refusal 2");
+_Static_assert(STRIP_BAD_COUNTERS == 3, "refusal 3");
 _Static_assert(STRIP_POSITION == 4, "refusal 4");
 _Static_assert(STRIP_SPAN == 5, "refusal 5");
 _Static_assert(STRIP_NOT_FOUND == 6, "refusal 6");
@@ -67,13 +67,13 @@ static void expect_allowed(uint64_t capacity)
     expect_at("counters told", capacity, strip_counter_count(capacity), c);
     expect_at("words and counters", capacity, strip_rank(capacity, 0, words, w, counters, c, 1, 0), 0);
     expect_at("a word less", capacity, strip_rank(capacity, 0, words, w - 1, counters, c, 1, 0),
-              REFUSED(STRIP_WORD_COUNT));
+              REFUSED(STRIP_BAD_WORDS));
     expect_at("a word more", capacity, strip_rank(capacity, 0, words, w + 1, counters, c, 1, 0),
-              REFUSED(STRIP_WORD_COUNT));
+              REFUSED(STRIP_BAD_WORDS));
     expect_at("a counter less", capacity, strip_rank(capacity, 0, words, w, counters, c - 1, 1, 0),
-              REFUSED(STRIP_COUNTER_COUNT));
+              REFUSED(STRIP_BAD_COUNTERS));
     expect_at("a counter more", capacity, strip_rank(capacity, 0, words, w, counters, c + 1, 1, 0),
-              REFUSED(STRIP_COUNTER_COUNT));
+              REFUSED(STRIP_BAD_COUNTERS));
 }
 
 static void expect_barred(uint64_t capacity)

@@ -60,10 +60,10 @@ int main(void)
     /* 1 before 2, 2 before the rest; no words at all */
     EXPECT(strip_get(513, 17, a, 8, 0), REFUSED(STRIP_BAD_HANDLE));
     EXPECT(strip_get(512, 513, a, 8, 0), REFUSED(STRIP_BAD_HANDLE));
-    EXPECT(strip_get(512, 17, a, 7, 17), REFUSED(STRIP_WORD_COUNT));
+    EXPECT(strip_get(512, 17, a, 7, 17), REFUSED(STRIP_BAD_WORDS));
     EXPECT(strip_get(0, 0, NULL, 0, 0), REFUSED(STRIP_BAD_HANDLE));
-    EXPECT(strip_get(512, 0, NULL, 0, 0), REFUSED(STRIP_WORD_COUNT));
-    EXPECT(strip_successor(512, 0, NULL, 0, 2, 1), REFUSED(STRIP_WORD_COUNT));
+    EXPECT(strip_get(512, 0, NULL, 0, 0), REFUSED(STRIP_BAD_WORDS));
+    EXPECT(strip_successor(512, 0, NULL, 0, 2, 1), REFUSED(STRIP_BAD_WORDS));
     EXPECT(strip_predecessor(UINT64_MAX, 0, NULL, 0, 1, 0), REFUSED(STRIP_BAD_HANDLE));
 
     EXPECT(strip_select_in_word(a[0], 7), 13);

@@ -116,7 +116,7 @@ static inline uint64_t handle_refused(uint64_t capacity, uint64_t length, uint64
 {
     if (!capacity_good(capacity) || length > capacity)
         return REFUSED(STRIP_BAD_HANDLE);
-    return words_len != capacity / 64 ? REFUSED(STRIP_WORD_COUNT) : 0;
+    return words_len != capacity / 64 ? REFUSED(STRIP_BAD_WORDS) : 0;
 }
 
 /* Where the next record starts: at the last one's end, or at unit 1. */

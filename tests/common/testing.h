@@ -4,7 +4,7 @@
  * bits wide and none is cut.
  *
  * Refusals are named with each call in the order in which they are judged, and the first that applies is given. After
- * a semicolon stands what depends on the bytes of the row itself. */
+ * a semicolon stands the refusal that only a wrong row gets. */
 #ifndef TESTING_H
 #define TESTING_H
 
@@ -48,8 +48,8 @@ uint64_t image_opened_rank(const uint8_t *image, size_t image_len, uint64_t labe
 /* Refusals: 10, 11, 14, 8, 6; 15. */
 uint64_t image_opened_select(const uint8_t *image, size_t image_len, uint64_t label, uint64_t v, uint64_t k);
 
-/* ---- Scripts: lists of calls over one set of lent buffers. A call is four numbers, an opcode and three arguments, 0
- * where there are fewer; the opcode is taken modulo 17:
+/* ---- Scripts: lists of calls over one set of lent buffers. A call is four numbers, an opcode and three arguments,
+ * of which it reads as many as it has; the opcode is taken modulo 17:
  *    0 lay(capacity)    1 add(v)           2 turn(i)             3 run(a, b, v)   4 cut(n)    5 look(i)
  *    6 count(v, i)      7 find(v, k)       8 next(v, i)          9 prior(v, i)   10 check    11 clear
  *   12 freeze(label)   13 inspect         14 row count(label, v, i)

@@ -10,6 +10,8 @@ use image::row_rank;
 use image::row_select;
 use words::coded;
 
+// Open to users, all of them: no `requires`, and a promise for every input.
+
 // inspect: the number of rows.
 #[no_mangle]
 pub extern "C" fn image_inspect(image: &[u8]) -> u64

@@ -11,7 +11,9 @@ mod strip;
 mod table;
 
 // Open to users: no `requires`, and a promise for every input.
+pub use handle::BLOCK_BITS;
 pub use handle::Handle;
+pub use handle::MOST_BITS;
 pub use refusal::Answer;
 pub use refusal::Refusal;
 pub use refusal::coded;
@@ -32,13 +34,13 @@ pub use fill::flip_position;
 pub use fill::put_position;
 pub use fill::put_positions;
 pub use fill::zero_words;
-pub use handle::BLOCK_BITS;
-pub use handle::MOST_BITS;
 pub use handle::UNTAKEN;
 pub use handle::allowed;
 pub use handle::check_strip;
 pub use refusal::Verdict;
 pub use scan::first_from;
-pub use select::select_in_word;
 pub use strip::check_below;
 pub use strip::check_value;
+
+// For the exports of tests.
+pub use select::select_in_word;
