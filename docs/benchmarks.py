@@ -260,6 +260,8 @@ def instructions_table(of):
         row = [call]
         for power in ("20", "24"):
             pair = [of.instructions(power, name) for name in names]
+            if None in pair and of.kind("instructions"):
+                raise SystemExit(f"benchmarks.tsv has no instructions of {' or '.join(names)} at 2^{power}")
             if None in pair:
                 continue
             row += [f"{x[0]:,.0f}" for x in pair] + [f"{pair[0][0] / pair[1][0]:.2f}"] + [f"{x[1]:,.1f}" for x in pair]
