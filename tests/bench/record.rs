@@ -12,8 +12,8 @@ extern "C" {
     fn tree_verify(c: usize, n: usize, words: *const u64, counters: *const u32) -> bool;
     fn checked_rank(c: usize, n: usize, w: *const u64, nw: usize, x: *const u32, nx: usize, v: u64, i: usize) -> u64;
     fn checked_select(c: usize, n: usize, w: *const u64, nw: usize, x: *const u32, nx: usize, v: u64, k: usize) -> u64;
-    fn checked_flip(c: usize, n: usize, w: *mut u64, nw: usize, x: *mut u32, nx: usize, i: usize, out: *mut u64, room: usize);
-    fn checked_push(c: usize, n: usize, w: *mut u64, nw: usize, x: *mut u32, nx: usize, v: u64, out: *mut u64, room: usize);
+    fn checked_flip(c: usize, n: usize, w: *mut u64, nw: usize, x: *mut u32, nx: usize, i: usize, out: *mut u64, out_len: usize);
+    fn checked_push(c: usize, n: usize, w: *mut u64, nw: usize, x: *mut u32, nx: usize, v: u64, out: *mut u64, out_len: usize);
     fn madvise(at: *mut u8, size: usize, advice: i32) -> i32;
 }
 

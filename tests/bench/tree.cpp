@@ -243,9 +243,9 @@ uint64_t checked_select(size_t capacity, size_t length, const uint64_t *words, s
 
 [[gnu::flatten]]
 void checked_flip(size_t capacity, size_t length, uint64_t *words, size_t nw, uint32_t *counters, size_t nc, size_t i,
-                  uint64_t *out, size_t room)
+                  uint64_t *out, size_t out_len)
 {
-    if (room < 5) return;
+    if (out_len < 5) return;
     uint64_t number = refusal(capacity, length, nw, nc);
     if (number == 0 && i >= length) number = 4;
     if (number != 0) return answer(out, number, 0, 0, capacity, length);
@@ -255,9 +255,9 @@ void checked_flip(size_t capacity, size_t length, uint64_t *words, size_t nw, ui
 
 [[gnu::flatten]]
 void checked_push(size_t capacity, size_t length, uint64_t *words, size_t nw, uint32_t *counters, size_t nc, uint64_t v,
-                  uint64_t *out, size_t room)
+                  uint64_t *out, size_t out_len)
 {
-    if (room < 5) return;
+    if (out_len < 5) return;
     uint64_t number = refusal(capacity, length, nw, nc);
     if (number == 0) number = v > 1 ? 8 : length == capacity ? 7 : 0;
     if (number != 0) return answer(out, number, 0, 0, capacity, length);
