@@ -535,7 +535,7 @@ opened s label e =
     }
 
 -- a value says that no line applies
-value-told : (v : Option ℕ) (x y : ℕ) → value x ≡ unless v refused (value y) → (v ≡ none) × (x ≡ y)
+pub value-told : (v : Option ℕ) (x y : ℕ) → value x ≡ unless v refused (value y) → (v ≡ none) × (x ≡ y)
 value-told none x y e = (refl, cc)
 value-told (some n) x y e = no-confusion cc
 

@@ -1,6 +1,6 @@
 -- The length of a row by its label, and the label of a row by its place in the chain: what is told, the walk to the k-th row, and that its label opens it.
 -- Assumes nothing.
-use mathlib.Core.Path.{_≡_, refl, sym, ap, _∙_}
+use mathlib.Core.Path.{_≡_, refl, sym, ap, subst, _∙_}
 use mathlib.Core.Bool.{true, false}
 use mathlib.Core.List.{List, [], _∷_, _++_}
 use mathlib.Core.Option.{Option, some, none}
@@ -8,17 +8,19 @@ use Prim.Native.Nat.{ℕ, zero, suc, _+_, _*_, _<_, _≤_}
 use native.Mathlib.Omega.{arith}
 use lib.ListN.{length, getD, length-append}
 use lib.Seq.{getD-at}
-use lib.Dec.{eqb}
-use borrow.Author.Tests.{eq-eqb, ne-eqb, le-leb, lt-leb}
+use lib.Dec.{leb, eqb}
+use borrow.Author.Tests.{eq-eqb, ne-eqb, le-leb, lt-leb, leb-false}
 use Rattle.words.specs.declared.refusal.Refusal.{Refusal}
 use Rattle.words.specs.declared.refusal.Answer.{Answer}
 use Rattle.words.specs.declared.refusal.Answer.the-variants.{Value, Refused}
-use Rattle.words.specs.Refusals.{judge, unless, value, refused, toldOf}
+use Rattle.words.specs.Refusals.{Line, _⇒_, judge, unless, value, refused, toldOf}
+use Rattle.words.proofs.BoolLaws.{not-not}
+use Rattle.words.proofs.CheckLaws.{passes}
 use Rattle.image.specs.Bytes.{num}
 use Rattle.image.specs.Layout.{unitBytes}
 use Rattle.image.specs.Chain.{nextAt, labelAt, lengthAt, goodLabel, chainOf, placeOf}
-use Rattle.image.specs.Calls.{isSome, recordsOf, openTable, openTold, rowPlace, rowLength, rowLengthTold, rowLabelTold}
-use Rattle.image.proofs.ChainLaws.{RecordFacts, label-good, chain-facts, some-in, opened-value, opened-refused}
+use Rattle.image.specs.Calls.{isSome, recordsOf, soundLine, openTable, openTold, rowPlace, rowLength, rowLengthTold, rowLabelTold}
+use Rattle.image.proofs.ChainLaws.{RecordFacts, label-good, chain-facts, some-in, value-told, opened-value, opened-refused}
 use Rattle.image.proofs.WalkLaws.{SoundWalk, Turn, walk-none, walk-turn, walk-done}
 
 -- ---- the length of a row
@@ -35,6 +37,16 @@ length-opened s label o at n told place e =
     ap value (e ∙ ap (lengthAt s) (k .1)) ∙ ap (λ (v : Option ℕ). unless v refused (value (rowLength s label))) (sym (k .0))
 
 -- ---- the label of the k-th row
+-- the table of the query
+abbrev pub labelTable : List ℕ → ℕ → List Line
+labelTable s k = soundLine (isSome (chainOf s)) ∷ (leb (length (recordsOf s)) k ⇒ 14) ∷ []
+
+-- where no line applies, the chain is sound and has row k
+pub label-passed : (s : List ℕ) (k : ℕ) → judge (labelTable s k) ≡ none → (chainOf s ≡ some (recordsOf s)) × (k < length (recordsOf s))
+label-passed s k e =
+    let w = passes (labelTable s k) e in
+    (some-in (chainOf s) (not-not _ (w .0)), leb-false _ _ (w .1 .0))
+
 -- 10 the chain is not sound
 pub label-unsound : (s : List ℕ) (k : ℕ) → chainOf s ≡ none → refused 10 ≡ rowLabelTold s k
 label-unsound s k e = simp e
@@ -109,3 +121,11 @@ nth-opens s rs k e l =
     let g : goodLabel label ≡ true = label-good label (r .low) (r .high) in
     let p : placeOf s label rs ≡ some (getD rs k 0) = place-nth s rs (f .differ) k l in
     (simp (e, g, p), simp (e, p))
+
+-- so a label that is told of row k opens it
+pub label-opens : (s : List ℕ) (k l : ℕ) → rowLabelTold s k ≡ value l → (judge (openTable s l) ≡ none) × (rowPlace s l ≡ getD (recordsOf s) k 0)
+label-opens s k l e =
+    let v = value-told (judge (labelTable s k)) l (labelAt s (getD (recordsOf s) k 0)) (sym e) in
+    let w = label-passed s k (v .0) in
+    subst (λ (x : ℕ). (judge (openTable s x) ≡ none) × (rowPlace s x ≡ getD (recordsOf s) k 0)) (sym (v .1))
+    (nth-opens s (recordsOf s) k (w .0) (w .1))
