@@ -12,3 +12,4 @@ pub mod PromiseLaws
 pub mod ReadLaws
 pub mod AgainLaws
 pub mod NumberLaws
+pub mod SmallLaws

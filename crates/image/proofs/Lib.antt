@@ -15,3 +15,4 @@ pub mod QueryLaws
 pub mod OpenedLaws
 pub mod ShapeLaws
 pub mod HeldLaws
+pub mod SmallLaws

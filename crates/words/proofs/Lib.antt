@@ -16,3 +16,4 @@ mod BlockSelectLaws
 pub mod ScanLaws
 pub mod CheckLaws
 pub mod StripLaws
+pub mod SmallLaws

@@ -1,5 +1,5 @@
 -- The refusals, their numbers, ordered tables of them, and what a call tells that changes no strip. Assumes nothing.
-use Prim.Native.Nat.{ℕ, _+_, _^_}
+use Prim.Native.Nat.{ℕ, _+_, _^_, _<_}
 use mathlib.Core.Path.{_≡_}
 use mathlib.Core.Bool.{Bool, cond}
 use mathlib.Core.List.{List, [], _∷_}
@@ -72,6 +72,11 @@ found none = refused 6
 abbrev pub coded : Told → ℕ
 coded (value x) = x
 coded (refused n) = 2 ^ 32 + n
+
+-- a value below 2^32, or a refusal: its code says which (SmallLaws.coded-value, coded-refused)
+abbrev pub Small : Told → Type 0
+Small (value x) = x < 2 ^ 32
+Small (refused n) = Unit {0}
 
 -- r is the code of something told of which P holds
 pub record CodedAs (P : Told → Type 0) (r : ℕ) : Type 0 where
