@@ -74,7 +74,8 @@ enum strip_refusal {
 
 /* inspect.
  * Value: the number of rows, 0 to 64. Every row is then right, so that every rank, select and get on it is that of
- * its bits.
+ * its bits. Refused 15, no rank and no select is to be relied on: on the wrong row it may be any number that is
+ * allowed there, and no call need tell which row that is.
  * Refusals: 10; 15.
  *   NULL, 0 or any image under 16 or over 2^32 bytes     refused 10
  *   a chain that is not sound                            refused 10, wrong rows or not
@@ -90,7 +91,8 @@ uint64_t image_inspect(const uint8_t *image, size_t image_len);
  *   i above that                refused 4
  *   v above 1                   refused 8
  *   label 0, 65                 refused 11; one that no row has, 14
- *   a wrong row                 at most i, or refused 15; on a right row never 15, whatever the rows beside it are */
+ *   a wrong row                 any number up to i, or refused 15; on a right row never 15, whatever the rows beside
+ *                               it are */
 uint64_t image_row_rank(const uint8_t *image, size_t image_len, uint64_t label, uint64_t v, uint64_t i);
 
 /* row find(v, k).

@@ -44,7 +44,8 @@ static inline struct strip_record strip_record_over(uint64_t *words, size_t word
 }
 
 /* A record over buffers that hold a strip already, under the handle that was kept with them, as after a reset.
- * strip_record_verify tells whether it fits. */
+ * strip_record_verify tells whether it fits; it does not see a length that is wrong among zeros, as after the push of
+ * a 0 whose handle was not kept. strip_record_fill(&r, 0, 0, 0) makes it fit, by its bits below the length. */
 static inline struct strip_record strip_record_resume(struct strip_handle handle, uint64_t *words, size_t words_len,
                                                       uint32_t *counters, size_t counters_len)
 {

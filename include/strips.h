@@ -46,8 +46,9 @@
 extern "C" {
 #endif
 
-/* ---- Sizes. The macros are constant expressions where their argument is one; STRIP_COUNTERS evaluates it more than
- * once, and none may stand in #if. They judge nothing: of a capacity that is not allowed, or a length above 134,217,728, they mean nothing. */
+/* ---- Sizes. The macros that take an argument are constant expressions of type size_t where it is one, but may not
+ * stand in #if; STRIP_COUNTERS evaluates it more than once. They judge nothing: of a capacity that is not allowed, or
+ * a length above 134,217,728, they mean nothing. */
 
 /* The numbers that a change writes to `out`. */
 #define STRIP_OUT 5
@@ -172,7 +173,7 @@ uint64_t strip_get(uint64_t capacity, uint64_t length, const uint64_t *words, si
  *   i = length                     all of v in the strip
  *   i above that                   refused 4
  *   v above 1                      refused 8
- *   a record that does not fit     at most i, or refused 9; on one that fits never 9 */
+ *   a record that does not fit     any number up to i, or refused 9; on one that fits never 9 */
 uint64_t strip_rank(uint64_t capacity, uint64_t length, const uint64_t *words, size_t words_len,
                     const uint32_t *counters, size_t counters_len, uint64_t v, uint64_t i);
 
