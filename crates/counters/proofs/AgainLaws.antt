@@ -15,7 +15,7 @@ use borrow.Author.Tests.{leb-false, ltb-false}
 use Rattle.words.specs.Strip.{cell}
 use Rattle.words.specs.Refusals.{_⇒_, judge}
 use Rattle.words.specs.Handles.{handle}
-use Rattle.words.specs.Calls.{valueLine, belowLine, withinLine}
+use Rattle.words.specs.Calls.{valueLine, belowLine, withinLine, spanLine}
 use Rattle.words.specs.declared.handle.Handle.{Handle}
 use Rattle.words.proofs.Sums.{lt-or, length-listOf, getD-listOf}
 use Rattle.words.proofs.StripLaws.{strip-length}
@@ -115,7 +115,7 @@ pub fill-again : (h : Handle) (ws cs : List ℕ) (a b v : ℕ) → judge (fillTa
     → Fits (handle (h .capacity) (length (filled (heldStrip h ws) a b v))) (packedWords (h .capacity) (filled (heldStrip h ws) a b v))
     (builtCounters (h .capacity) (filled (heldStrip h ws) a b v))
 fill-again h ws cs a b v pass =
-    let ls = valueLine v ∷ (ltb b a ⇒ 5) ∷ withinLine (h .length) b ∷ [] in
+    let ls = valueLine v ∷ spanLine a b ∷ withinLine (h .length) b ∷ [] in
     let z = sizes-of h ws cs ls pass in
     let small : v ≤ 1 = ltb-false _ _ (lines-of h ws cs ls pass .0) in
     built-fits (h .capacity) (filled (heldStrip h ws) a b v) (z .step)

@@ -9,7 +9,7 @@ use Rattle.words.specs.Bits.{listOf, same}
 use Rattle.words.specs.Strip.{cell, stripOf, rank, select}
 use Rattle.words.specs.Refusals.{Line, _⇒_, judge, unless, Told, value, refused, found}
 use Rattle.words.specs.Handles.{allowed, handle, handleOf, stripLines}
-use Rattle.words.specs.Calls.{valueLine, belowLine, withinLine, absentLine}
+use Rattle.words.specs.Calls.{valueLine, belowLine, withinLine, spanLine, absentLine}
 use Rattle.counters.specs.Tree.{blocksOf, counterCount, changeCount}
 use Rattle.counters.specs.Record.{StripRecord, Fits, builtRecord}
 use Rattle.counters.specs.Promises.{CreatedTold, created, uncreated, ChangedTold, done, Outcome, outcome, stays, Promise, Near, AtMost, Below}
@@ -64,7 +64,7 @@ Flipped h i ws cs =
 
 -- run(a, b, v): 1, 2, 3; 8; 5 a above b; 4 b above the length
 abbrev pub fillTable : Handle → ℕ → ℕ → ℕ → ℕ → ℕ → List Line
-fillTable h words counters a b v = checks h words counters ++ (valueLine v ∷ (ltb b a ⇒ 5) ∷ withinLine (h .length) b ∷ [])
+fillTable h words counters a b v = checks h words counters ++ (valueLine v ∷ spanLine a b ∷ withinLine (h .length) b ∷ [])
 
 -- the strip with positions a to b - 1 set to v
 unfoldable pub filled : List ℕ → ℕ → ℕ → ℕ → List ℕ

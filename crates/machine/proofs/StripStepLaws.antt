@@ -5,7 +5,7 @@ use mathlib.Core.List.{List, [], _∷_, _++_}
 use mathlib.Core.Option.{Option, some, none}
 use Prim.Native.Nat.{ℕ, _-_, _≤_, _<_}
 use native.Mathlib.Omega.{arith}
-use lib.Dec.{eqb, leb, ltb}
+use lib.Dec.{eqb, leb}
 use lib.ListN.{length, take, length-append, length-set}
 use lib.Seq.{length-take-le}
 use borrow.Author.Tests.{leb-false, ltb-false}
@@ -13,7 +13,7 @@ use Rattle.words.specs.Strip as strip
 use Rattle.words.specs.Strip.{cell}
 use Rattle.words.specs.Refusals.{Line, _⇒_, judge, unless, Told, value, refused, found}
 use Rattle.words.specs.Handles.{handleOf, untaken}
-use Rattle.words.specs.Calls.{valueLine, withinLine, belowTable, valueTable}
+use Rattle.words.specs.Calls.{valueLine, withinLine, spanLine, belowTable, valueTable}
 use Rattle.words.proofs.CheckLaws.{not-both, passes, passed-both}
 use Rattle.counters.specs.Tree.{blocksOf, counterCount}
 use Rattle.counters.specs.Record.{StripRecord, builtRecord}
@@ -202,7 +202,7 @@ module _ (a : StripState) (g : StripGood a) where
   pub fill-good : (m n v : ℕ) → StripGood (stripMove a (fill m n v) .next)
   fill-good m n v =
       judged-good StripGood a (judge (fillTable (handleIn a) (a .words) (a .counters) m n v)) _ g (λ p.
-      let ls = valueLine v ∷ (ltb n m ⇒ 5) ∷ withinLine (length (a .strip)) n ∷ [] in
+      let ls = valueLine v ∷ spanLine m n ∷ withinLine (length (a .strip)) n ∷ [] in
       let l = passes ls (lines ls p) in
       with-good (filled (a .strip) m n v) (filled-bits (a .strip) m n v (g .bits) (ltb-false _ _ (l .0)))
       (omega (arith, filled-length (a .strip) m n v, sized a g .long)))

@@ -1,4 +1,4 @@
--- The strip that a list of words holds: its cells and the four definitions over it are those over the words' bits. Assumes nothing.
+-- A list by its cells: the four definitions over it are those over the cells; and so of the strip that a list of words holds. Assumes nothing.
 use mathlib.Core.Path.{_≡_, ap, ap₂, _∙_}
 use mathlib.Core.Bool.{_&&_}
 use mathlib.Core.List.{List}
@@ -6,41 +6,56 @@ use Prim.Native.Nat.{ℕ, min, _≤_, _<_}
 use native.Mathlib.Omega.{arith}
 use lib.ListN.{length}
 use lib.Dec.{leb, eqb}
-use Rattle.words.specs.Bits.{bitAt}
+use Rattle.words.specs.Bits.{bitAt, listOf}
 use Rattle.words.specs.Strip.{cell, stripOf, rankOf, selectOf, successorOf, predecessorOf, rank, select, successor, predecessor}
 use Rattle.words.proofs.Sums.{length-listOf, getD-listOf}
 use Rattle.words.proofs.SearchLaws.{least-ext, greatest-ext, rank-ext}
 
+-- ---- the list of the cells f 0, f 1, .., f (n - 1)
+module _ (f : ℕ → ℕ) (n : ℕ) where
+  -- the first i cells, where there are as many
+  short : (i : ℕ) → i ≤ n → min i (length (listOf f n)) ≡ i
+  short i h = ap (min i) (length-listOf f n) ∙ omega arith
+
+  -- cells before i have the same rank
+  before : (v i : ℕ) → i ≤ n → rankOf (cell (listOf f n)) v i ≡ rankOf f v i
+  before v i h = rank-ext (cell (listOf f n)) f v i (λ p l. getD-listOf f n p (omega arith))
+
+  pub listed-rank : (v i : ℕ) → i ≤ n → rank (listOf f n) v i ≡ rankOf f v i
+  listed-rank v i h = ap (rankOf (cell (listOf f n)) v) (short i h) ∙ before v i h
+
+  pub listed-select : (v k : ℕ) → select (listOf f n) v k ≡ selectOf f n v k
+  listed-select v k =
+      ap (λ (m : ℕ). selectOf (cell (listOf f n)) m v k) (length-listOf f n)
+      ∙ least-ext (λ p. eqb (cell (listOf f n) p) v && eqb (rankOf (cell (listOf f n)) v p) k) (λ p. eqb (f p) v && eqb (rankOf f v p) k) n
+      (λ p l. ap₂ (λ (x y : ℕ). eqb x v && eqb y k) (getD-listOf f n p l) (before v p (omega arith)))
+
+  pub listed-successor : (v i : ℕ) → successor (listOf f n) v i ≡ successorOf f n v i
+  listed-successor v i =
+      ap (λ (m : ℕ). successorOf (cell (listOf f n)) m v i) (length-listOf f n)
+      ∙ least-ext (λ p. leb i p && eqb (cell (listOf f n) p) v) (λ p. leb i p && eqb (f p) v) n
+      (λ p l. ap (λ (x : ℕ). leb i p && eqb x v) (getD-listOf f n p l))
+
+  pub listed-predecessor : (v i : ℕ) → i ≤ n → predecessor (listOf f n) v i ≡ predecessorOf f v i
+  listed-predecessor v i h =
+      ap (predecessorOf (cell (listOf f n)) v) (short i h)
+      ∙ greatest-ext (λ p. eqb (cell (listOf f n) p) v) (λ p. eqb (f p) v) i (λ p l. ap (λ (x : ℕ). eqb x v) (getD-listOf f n p (omega arith)))
+
+-- ---- the strip of a list of words
 pub strip-cell : (ws : List ℕ) (n p : ℕ) → p < n → cell (stripOf ws n) p ≡ bitAt ws p
 strip-cell ws n p l = getD-listOf (bitAt ws) n p l
 
 pub strip-length : (ws : List ℕ) (n : ℕ) → length (stripOf ws n) ≡ n
 strip-length ws n = length-listOf (bitAt ws) n
 
--- the first i cells, where there are as many
-short : (ws : List ℕ) (n i : ℕ) → i ≤ n → min i (length (stripOf ws n)) ≡ i
-short ws n i h = ap (min i) (strip-length ws n) ∙ omega arith
-
--- cells before i have the same rank
-before : (ws : List ℕ) (n v i : ℕ) → i ≤ n → rankOf (cell (stripOf ws n)) v i ≡ rankOf (bitAt ws) v i
-before ws n v i h = rank-ext (cell (stripOf ws n)) (bitAt ws) v i (λ p l. strip-cell ws n p (omega arith))
-
 pub strip-rank : (ws : List ℕ) (n v i : ℕ) → i ≤ n → rank (stripOf ws n) v i ≡ rankOf (bitAt ws) v i
-strip-rank ws n v i h = ap (rankOf (cell (stripOf ws n)) v) (short ws n i h) ∙ before ws n v i h
+strip-rank ws n v i h = listed-rank (bitAt ws) n v i h
 
 pub strip-select : (ws : List ℕ) (n v k : ℕ) → select (stripOf ws n) v k ≡ selectOf (bitAt ws) n v k
-strip-select ws n v k =
-    ap (λ (m : ℕ). selectOf (cell (stripOf ws n)) m v k) (strip-length ws n)
-    ∙ least-ext (λ p. eqb (cell (stripOf ws n) p) v && eqb (rankOf (cell (stripOf ws n)) v p) k) (λ p. eqb (bitAt ws p) v && eqb (rankOf (bitAt ws) v p) k) n
-    (λ p l. ap₂ (λ (x y : ℕ). eqb x v && eqb y k) (strip-cell ws n p l) (before ws n v p (omega arith)))
+strip-select ws n v k = listed-select (bitAt ws) n v k
 
 pub strip-successor : (ws : List ℕ) (n v i : ℕ) → successor (stripOf ws n) v i ≡ successorOf (bitAt ws) n v i
-strip-successor ws n v i =
-    ap (λ (m : ℕ). successorOf (cell (stripOf ws n)) m v i) (strip-length ws n)
-    ∙ least-ext (λ p. leb i p && eqb (cell (stripOf ws n) p) v) (λ p. leb i p && eqb (bitAt ws p) v) n
-    (λ p l. ap (λ (x : ℕ). leb i p && eqb x v) (strip-cell ws n p l))
+strip-successor ws n v i = listed-successor (bitAt ws) n v i
 
 pub strip-predecessor : (ws : List ℕ) (n v i : ℕ) → i ≤ n → predecessor (stripOf ws n) v i ≡ predecessorOf (bitAt ws) v i
-strip-predecessor ws n v i h =
-    ap (predecessorOf (cell (stripOf ws n)) v) (short ws n i h)
-    ∙ greatest-ext (λ p. eqb (cell (stripOf ws n) p) v) (λ p. eqb (bitAt ws p) v) i (λ p l. ap (λ (x : ℕ). eqb x v) (strip-cell ws n p (omega arith)))
+strip-predecessor ws n v i h = listed-predecessor (bitAt ws) n v i h

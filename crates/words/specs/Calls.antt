@@ -21,6 +21,10 @@ belowLine n i = leb n i ⇒ 4
 abbrev pub withinLine : ℕ → ℕ → Line
 withinLine n i = ltb n i ⇒ 4
 
+-- 5 a above b
+abbrev pub spanLine : ℕ → ℕ → Line
+spanLine a b = ltb b a ⇒ 5
+
 -- 6 no such stroke: k not below the length n, and so not below the number of v
 abbrev pub absentLine : ℕ → ℕ → Line
 absentLine n k = leb n k ⇒ 6

@@ -39,8 +39,6 @@ pub use handle::allowed;
 pub use handle::check_strip;
 pub use refusal::Verdict;
 pub use scan::first_from;
+pub use select::select_in_word;
 pub use strip::check_below;
 pub use strip::check_value;
-
-// For the exports of tests.
-pub use select::select_in_word;

@@ -3,7 +3,7 @@ ghost use mathlib.Core.Path.{_≡_};
 ghost use Prim.Native.Nat.{_<_};
 ghost use Rattle.words.specs.Refusals.{numberOf, toldOf, coded as codedOf};
 
-// Why a call is refused, in the order of the numbers 1 to 15.
+// Why a call is refused, in the order of the numbers 1 to 16.
 pub enum Refusal {
     // capacity not allowed, or length above capacity
     BadHandle,
@@ -35,6 +35,8 @@ pub enum Refusal {
     LabelAbsent,
     // a row whose ones, entries or padding are wrong
     WrongRow,
+    // two strips of unequal capacity or length
+    Unequal,
 }
 
 // What a call's checks say.
@@ -51,7 +53,7 @@ pub enum Answer {
 
 // The number of a refusal.
 pub fn number(r: Refusal) -> u64
-    ensures { λ n. ⌜ (n ≡ numberOf r) × (n < 16) ⌝ }
+    ensures { λ n. ⌜ (n ≡ numberOf r) × (n < 100) ⌝ }
 {
     match r {
         Refusal::BadHandle => 1,
@@ -69,6 +71,7 @@ pub fn number(r: Refusal) -> u64
         Refusal::NoRoom => 13,
         Refusal::LabelAbsent => 14,
         Refusal::WrongRow => 15,
+        Refusal::Unequal => 16,
     }
 }
 

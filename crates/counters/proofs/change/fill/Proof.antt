@@ -4,12 +4,10 @@ use mathlib.Core.List.{[], _∷_}
 use Prim.Native.Nat.{_*_, _/_, _≤_}
 use native.Mathlib.Omega.{arith}
 use borrow.Author.Needs.{needs}
-use lib.Dec.{ltb}
 use lib.ListN.{length}
 use borrow.Author.Tests.{ltb-false}
 use Rattle.words.specs.Bits.{bitAt, ones}
-use Rattle.words.specs.Refusals.{_⇒_}
-use Rattle.words.specs.Calls.{valueLine, withinLine}
+use Rattle.words.specs.Calls.{valueLine, withinLine, spanLine}
 use Rattle.words.proofs.CheckLaws.{unless-refused, unless-passed}
 use Rattle.counters.specs.Promises.{stays}
 use Rattle.counters.specs.Calls.{fillTable}
@@ -29,7 +27,7 @@ enum-told c = search needs
 -- what the checks leave
 pass : (c : tie.After-enum-told)
     → let a = c .before .before .before .before .before .args in
-    PassedRecord (a .h) (a .words .now) (a .counters .now) (valueLine (a .v) ∷ (ltb (a .b) (a .a) ⇒ 5) ∷ withinLine (a .h .length) (a .b) ∷ [])
+    PassedRecord (a .h) (a .words .now) (a .counters .now) (valueLine (a .v) ∷ spanLine (a .a) (a .b) ∷ withinLine (a .h .length) (a .b) ∷ [])
 pass c =
     let a = c .before .before .before .before .before .args in
     record-passed (a .h) (a .words .now) (a .counters .now) _ (c .before .before .check-fill .result) (c .before .before .check-fill .ensures) (c .enum-told .given .1)

@@ -1,4 +1,4 @@
--- `listing::rows::put_refused` meets its contract: eight bytes, then the number, below 16. Assumes nothing.
+-- `listing::rows::put_refused` meets its contract: eight bytes, then the number, below 100. Assumes nothing.
 use mathlib.Core.Path.{ap}
 use mathlib.Core.List.{[], _∷_}
 use Prim.Native.Nat.{ℕ}

@@ -1,4 +1,4 @@
--- `words::refusal::coded` meets its contract: a refusal's number, below 16, on top of 2^32. Assumes nothing.
+-- `words::refusal::coded` meets its contract: a refusal's number, below 100, on top of 2^32. Assumes nothing.
 use borrow.Author.Needs.{needs}
 use mathlib.Core.Path.{sym, ap, _∙_}
 use Prim.Native.Nat.{ℕ, _+_, _^_}
