@@ -1,5 +1,6 @@
-// What libstrips.a exports: the seventeen calls for C, one function each, and the queries of sizes and rows.
+// What libstrips.a exports: the seventeen calls and those over two strips for C, one function each, and the queries of sizes and rows.
 mod images;
+mod pair;
 mod record;
 mod strip;
 
@@ -13,6 +14,12 @@ pub use images::image_row_label;
 pub use images::image_row_length;
 pub use images::image_row_rank;
 pub use images::image_row_select;
+pub use pair::strip_pair_both;
+pub use pair::strip_pair_differ;
+pub use pair::strip_pair_either;
+pub use pair::strip_pair_find;
+pub use pair::strip_pair_only_first;
+pub use pair::strip_pair_span;
 pub use record::strip_create;
 pub use record::strip_fill;
 pub use record::strip_flip;
