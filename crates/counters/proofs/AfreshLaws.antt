@@ -12,7 +12,7 @@ use Rattle.words.specs.Strip.{cell, stripOf}
 use Rattle.words.specs.Handles.{handleOf}
 use Rattle.words.specs.declared.handle.Handle.{Handle}
 use Rattle.words.proofs.Sums.{lt-or, sum-none, sum-flat, ones-le, listOf-is, length-listOf, getD-listOf}
-use Rattle.words.proofs.WordLaws.{word-bit, bitAt-le, bitAt-past}
+use Rattle.words.proofs.WordLaws.{word-bit, bitAt-past}
 use Rattle.words.proofs.DigitLaws.{field, digits-ext, digits-at, digits-of}
 use Rattle.words.proofs.StripLaws.{strip-cell, strip-length}
 use Rattle.counters.specs.Tree.{blocksOf, nodes, height, childBits, childOnes, fromChild, toChild, counter, total, counterCount, indexOf, levels}
@@ -93,11 +93,6 @@ bits-all s bits p = go (lt-or p (length s))
     go : (p < length s) ⊎ (length s ≤ p) → cell s p ≤ 1
     go (inl l) = bits p l
     go (inr l) = omega (arith, List·getD-eq-default s 0 {n = p} l)
-
--- a strip that words hold
-pub held-bits : (ws : List ℕ) (n p : ℕ) → cell (stripOf ws n) p ≤ 1
-held-bits ws n =
-    bits-all (stripOf ws n) (λ p l. let q : p < n = omega (arith, strip-length ws n) in omega (arith, strip-cell ws n p q, bitAt-le ws p))
 
 -- ---- laid afresh from a strip
 -- as many words as the capacity has

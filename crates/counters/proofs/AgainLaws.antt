@@ -18,10 +18,10 @@ use Rattle.words.specs.Handles.{handle}
 use Rattle.words.specs.Calls.{valueLine, belowLine, withinLine, spanLine}
 use Rattle.words.specs.declared.handle.Handle.{Handle}
 use Rattle.words.proofs.Sums.{lt-or, length-listOf, getD-listOf}
-use Rattle.words.proofs.StripLaws.{strip-length}
+use Rattle.words.proofs.StripLaws.{strip-length, strip-le}
 use Rattle.counters.specs.Record.{Fits, packedWords, builtCounters}
 use Rattle.counters.specs.Calls.{checks, heldStrip, pushTable, flipTable, fillTable, filled, truncateTable}
-use Rattle.counters.proofs.AfreshLaws.{bits-all, held-bits, built-fits, words-zero, counters-zero}
+use Rattle.counters.proofs.AfreshLaws.{bits-all, built-fits, words-zero, counters-zero}
 use Rattle.counters.proofs.PromiseLaws.{sizes, sizes-of, lines-of}
 
 -- ---- strips of bits
@@ -97,7 +97,7 @@ push-again h ws cs v pass =
     let one : length (v ∷ []) ≡ 1 = refl in
     built-fits (h .capacity) (heldStrip h ws ++ (v ∷ [])) (z .step)
     (omega (arith, length-append (heldStrip h ws) (v ∷ []), one, strip-length ws (h .length)))
-    (push-bits (heldStrip h ws) v (held-bits ws (h .length)) small)
+    (push-bits (heldStrip h ws) v (strip-le ws (h .length)) small)
 
 -- turn
 pub flip-again : (h : Handle) (ws cs : List ℕ) (i : ℕ) → judge (flipTable h (length ws) (length cs) i) ≡ none
@@ -108,7 +108,7 @@ flip-again h ws cs i pass =
     let b : ℕ = 1 - cell (heldStrip h ws) i in
     built-fits (h .capacity) (set (heldStrip h ws) i b) (z .step)
     (omega (arith, length-set (heldStrip h ws) i b, strip-length ws (h .length), z .long))
-    (set-bits (heldStrip h ws) i b (held-bits ws (h .length)) (omega arith))
+    (set-bits (heldStrip h ws) i b (strip-le ws (h .length)) (omega arith))
 
 -- run
 pub fill-again : (h : Handle) (ws cs : List ℕ) (a b v : ℕ) → judge (fillTable h (length ws) (length cs) a b v) ≡ none
@@ -120,7 +120,7 @@ fill-again h ws cs a b v pass =
     let small : v ≤ 1 = ltb-false _ _ (lines-of h ws cs ls pass .0) in
     built-fits (h .capacity) (filled (heldStrip h ws) a b v) (z .step)
     (omega (arith, filled-length (heldStrip h ws) a b v, strip-length ws (h .length), z .long))
-    (filled-bits (heldStrip h ws) a b v (held-bits ws (h .length)) small)
+    (filled-bits (heldStrip h ws) a b v (strip-le ws (h .length)) small)
 
 -- cut
 pub truncate-again : (h : Handle) (ws cs : List ℕ) (n : ℕ) → judge (truncateTable h (length ws) (length cs) n) ≡ none
@@ -131,4 +131,4 @@ truncate-again h ws cs n pass =
     let within : n ≤ h .length = ltb-false _ _ (lines-of h ws cs (withinLine (h .length) n ∷ []) pass .0) in
     let room : n ≤ length (heldStrip h ws) = omega (arith, strip-length ws (h .length)) in
     built-fits (h .capacity) (take n (heldStrip h ws)) (z .step) (omega (arith, length-take-le n (heldStrip h ws) room, z .long))
-    (take-bits n (heldStrip h ws) room (held-bits ws (h .length)))
+    (take-bits n (heldStrip h ws) room (strip-le ws (h .length)))

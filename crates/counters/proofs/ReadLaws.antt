@@ -22,14 +22,14 @@ use Rattle.words.proofs.CheckLaws.{judge-append, refused-first, unless-refused}
 use Rattle.words.proofs.BoolLaws.{and-intro, and-first, and-second}
 use Rattle.words.proofs.SameLaws.{same-eq, same-refl}
 use Rattle.words.proofs.SearchLaws.{select-exists, select-place, select-none, select-longer, rank-ones, value-rank, value-le}
-use Rattle.words.proofs.StripLaws.{strip-length, strip-rank, strip-select}
+use Rattle.words.proofs.StripLaws.{strip-length, strip-rank, strip-select, strip-le}
 use Rattle.counters.specs.Tree.{blocksOf}
 use Rattle.counters.specs.Record.{Fits, AllFit, packedWords, builtCounters}
 use Rattle.counters.specs.Working.{OnesHeld}
 use Rattle.counters.specs.Promises.{AtMost, Below}
 use Rattle.counters.specs.Calls.{checks, heldStrip, rankTable, Ranked, selectTable, Selected, fitting, verifyTable, verifyTold}
 use Rattle.counters.proofs.PromiseLaws.{promise-passed, Sizes, sizes}
-use Rattle.counters.proofs.AfreshLaws.{held-bits, built-fits, fits-built}
+use Rattle.counters.proofs.AfreshLaws.{built-fits, fits-built}
 
 -- ---- count
 module _ (h : Handle) (ws cs : List ℕ) (v i x : ℕ) (small : v ≤ 1) (within : i ≤ h .length)
@@ -120,7 +120,7 @@ fitting-fits h ws cs z e =
     let a : Bool = same ws (packedWords c s) in
     let b : Bool = same cs (builtCounters c s) in
     let long : length s ≤ c = omega (arith, strip-length ws (h .length), z .long) in
-    let f : Fits (handleOf c s) (packedWords c s) (builtCounters c s) = built-fits c s (z .step) long (held-bits ws (h .length)) in
+    let f : Fits (handleOf c s) (packedWords c s) (builtCounters c s) = built-fits c s (z .step) long (strip-le ws (h .length)) in
     let g : Fits (handle c (h .length)) (packedWords c s) (builtCounters c s) =
     subst (λ (n : ℕ). Fits (handle c n) (packedWords c s) (builtCounters c s)) (strip-length ws (h .length)) f in
     let k : Fits (handle c (h .length)) ws cs =

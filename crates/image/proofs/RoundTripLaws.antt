@@ -23,7 +23,7 @@ use Rattle.counters.specs.Promises.{Promise, Below}
 use Rattle.counters.proofs.PromiseLaws.{promise-exact}
 use Rattle.counters.specs.Calls.{checks, rankTable, Ranked, selectTable, Selected}
 use Rattle.words.proofs.Sums.{lt-or, part-at}
-use Rattle.words.proofs.StripLaws.{strip-length}
+use Rattle.words.proofs.StripLaws.{strip-length, strip-le}
 use Rattle.words.specs.declared.handle.Handle.{Handle}
 use Rattle.image.specs.Bytes.{num, le, bitFrom}
 use Rattle.image.specs.Layout.{unitBytes, mostLabel, mostRow, bitsStart, sizeOf, recordOf}
@@ -33,7 +33,7 @@ use Rattle.image.specs.Calls.{isSome, recordsIn, recordsOf, recordWith, 
 use Rattle.image.specs.RoundTrip.{GivesBack, RowKept}
 use Rattle.image.proofs.ChainLaws.{HeaderFacts, RecordFacts, Links, links-end, links-more, chain-links, links-chain, links-some, none-some, ChainFacts, chain-facts, place-found, place-append, label-good, opened}
 use Rattle.image.proofs.PutLaws.{length-le, le-small, sets-small, take-sets, drop-num, num-ext, num-sets, num-sets-in, num-sets-under, getD-sets-under, getD-sets-over}
-use Rattle.image.proofs.WriteLaws.{listOf-ext, record-front, record-length, record-next, record-label, record-long, record-bits, record-right, record-small, strip-le}
+use Rattle.image.proofs.WriteLaws.{listOf-ext, record-front, record-length, record-next, record-label, record-long, record-bits, record-right, record-small}
 use Rattle.image.proofs.FreezeLaws.{freezing}
 use Rattle.image.proofs.RowLaws.{part-size, after-lines}
 

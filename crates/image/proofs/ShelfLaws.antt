@@ -14,7 +14,7 @@ use borrow.Author.Tests.{ne-eqb, eqb-false}
 use Rattle.words.specs.Strip.{cell, stripOf}
 use Rattle.words.specs.declared.handle.Handle.{Handle}
 use Rattle.words.specs.Refusals.{judge, unless, value, refused}
-use Rattle.words.proofs.StripLaws.{strip-length}
+use Rattle.words.proofs.StripLaws.{strip-length, strip-le}
 use Rattle.words.specs.Words.{placeIn}
 use Rattle.image.specs.Bytes.{num, le}
 use Rattle.image.specs.Layout.{unitBytes, kind, mostLabel, mostRow, sizeOf, recordOf}
@@ -25,7 +25,7 @@ use Rattle.image.specs.Calls.{isSome, recordsIn, recordsOf, recordWith, 
 use Rattle.image.specs.RoundTrip.{GivesBack}
 use Rattle.image.proofs.ChainLaws.{RecordFacts, Links, links-end, links-more, links-chain, link-last, Found, place-found, found-placed, chain-facts, label-good}
 use Rattle.image.proofs.PutLaws.{length-le, num-ext}
-use Rattle.image.proofs.WriteLaws.{piece-after, piece-at, piece-small, length-header, record-front, record-length, record-next, record-label, record-long, record-bits, record-right, strip-le}
+use Rattle.image.proofs.WriteLaws.{piece-after, piece-at, piece-small, length-header, record-front, record-length, record-next, record-label, record-long, record-bits, record-right}
 use Rattle.image.proofs.FreezeLaws.{none-in, freezing}
 use Rattle.image.proofs.RoundTripLaws.{gives-back, open-passes}
 

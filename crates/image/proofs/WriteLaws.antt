@@ -15,7 +15,7 @@ use Rattle.words.specs.Bits.{bit, bitAt, ones, digits, listOf}
 use Rattle.words.specs.Strip.{cell, stripOf, rank, rankOf}
 use Rattle.words.proofs.Sums.{lt-or, sum-zero, sum-split, sum-ext, ones-le, length-listOf, getD-listOf, sum-const}
 use Rattle.words.proofs.BitLaws.{bit-shr, bit-mod, bit-high}
-use Rattle.words.proofs.WordLaws.{word-bit, bitAt-le}
+use Rattle.words.proofs.WordLaws.{word-bit}
 use Rattle.words.proofs.DigitLaws.{field, digits-ext, digits-at, digits-of}
 use Rattle.words.proofs.SearchLaws.{rank-ones}
 use Rattle.words.proofs.StripLaws.{strip-cell}
@@ -239,10 +239,6 @@ pub rank-all : (t : List ℕ) → ((p : ℕ) → cell t p ≤ 1) → rank t 1 (l
 rank-all t h =
     let e : min (length t) (length t) ≡ length t = omega arith in
     ap (rankOf (cell t) 1) e ∙ rank-ones (cell t) (length t) h
-
--- the cells of a strip are bits
-pub strip-le : (ws : List ℕ) (n p : ℕ) → cell (stripOf ws n) p ≤ 1
-strip-le ws n = listOf-all (λ x. x ≤ 1) (bitAt ws) n (bitAt-le ws) (omega arith)
 
 -- ---- a record
 module _ (x l : ℕ) (t : List ℕ) where

@@ -3,13 +3,13 @@ use mathlib.Core.Path.{_≡_, refl, sym, ap, ap₂, subst, _∙_}
 use mathlib.Core.Bool.{Bool, true, false, cond}
 use Prim.Native.Nat.{ℕ, zero, suc, _+_, _-_, _^_, _≤_, _<_}
 use native.Mathlib.Omega.{arith}
-use lib.Dec.{ltb, lit<, le→leb}
+use lib.Dec.{ltb, leb→le, le→leb}
 use lib.IntN.{ℤ, pos, negsuc, negℤ, _-ℤ_}
-use lib.Signed.{_≤ℤ_, mag}
+use lib.Signed.{_≤ℤ_}
 use mir.Syntax.{w64}
 use mir.Val.{SFits, toZ, ofZ}
 use mir.ValLaws.{toZ-pos, toZ-ofZ}
-use borrow.Author.Tests.{ltb-true, ltb-false}
+use borrow.Author.Tests.{ltb-true}
 
 -- from -m to m
 pub record Within (m : ℕ) (z : ℤ) : Type 0 where
@@ -37,14 +37,14 @@ difference-within m p (suc q) hp hq = go (ltb p (suc q)) refl
     go true e = let l : p < suc q = ltb-true p (suc q) e in down m (suc q - suc p) (omega arith)
     go false e = up m (p - suc q) (omega arith)
 
--- what lies within 2^62 fits 64 bits
+-- an integer from -m to m, m below 2^63, fits 64 bits
 pub within-fits : (m : ℕ) (z : ℤ) → m < 2 ^ 63 → Within m z → SFits w64 z
-within-fits m (pos n) l h = record { sfits = omega (arith, lib.Dec.leb→le n m (h .most .le)) }
+within-fits m (pos n) l h = record { sfits = omega (arith, leb→le n m (h .most .le)) }
 within-fits m (negsuc n) l h = record { sfits = go m l (h .least) }
   where
     go : (m : ℕ) → m < 2 ^ 63 → negℤ (pos m) ≤ℤ negsuc n → n < 2 ^ 63
     go zero a b = absurd (b .le)
-    go (suc m) a b = omega (arith, lib.Dec.leb→le n m (b .le))
+    go (suc m) a b = omega (arith, leb→le n m (b .le))
 
 -- a number below 2^63, and a difference of two, as the machine holds them
 pub held : (n : ℕ) → n < 2 ^ 63 → toZ w64 n ≡ pos n

@@ -1,3 +1,4 @@
 pub mod JoinLaws
 pub mod CheckLaws
 pub mod IntLaws
+pub mod SmallLaws

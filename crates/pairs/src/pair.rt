@@ -40,9 +40,9 @@ pub fn check_pair(first: Handle, xs: usize, second: Handle, ys: usize) -> Verdic
     let Verdict::Pass = verdict else {
         return verdict;
     };
-    let verdict = check_strip(second, ys, UNTAKEN);
-    let Verdict::Pass = verdict else {
-        return verdict;
+    let other = check_strip(second, ys, UNTAKEN);
+    let Verdict::Pass = other else {
+        return other;
     };
     if first.capacity != second.capacity {
         return Verdict::Refuse(Refusal::Unequal);

@@ -2,13 +2,15 @@
 use mathlib.Core.Path.{_≡_, ap, ap₂, _∙_}
 use mathlib.Core.Bool.{_&&_}
 use mathlib.Core.List.{List}
+use mathlib.Core.Logic.{_⊎_, inl, inr}
 use Prim.Native.Nat.{ℕ, min, _≤_, _<_}
 use native.Mathlib.Omega.{arith}
-use lib.ListN.{length}
+use lib.ListN.{length, List·getD-eq-default}
 use lib.Dec.{leb, eqb}
 use Rattle.words.specs.Bits.{bitAt, listOf}
 use Rattle.words.specs.Strip.{cell, stripOf, rankOf, selectOf, successorOf, predecessorOf, rank, select, successor, predecessor}
-use Rattle.words.proofs.Sums.{length-listOf, getD-listOf}
+use Rattle.words.proofs.Sums.{lt-or, length-listOf, getD-listOf}
+use Rattle.words.proofs.WordLaws.{bitAt-le}
 use Rattle.words.proofs.SearchLaws.{least-ext, greatest-ext, rank-ext}
 
 -- ---- the list of the cells f 0, f 1, .., f (n - 1)
@@ -47,6 +49,14 @@ strip-cell ws n p l = getD-listOf (bitAt ws) n p l
 
 pub strip-length : (ws : List ℕ) (n : ℕ) → length (stripOf ws n) ≡ n
 strip-length ws n = length-listOf (bitAt ws) n
+
+-- its cells are bits
+pub strip-le : (ws : List ℕ) (n p : ℕ) → cell (stripOf ws n) p ≤ 1
+strip-le ws n p = go (lt-or p n)
+  where
+    go : (p < n) ⊎ (n ≤ p) → cell (stripOf ws n) p ≤ 1
+    go (inl l) = omega (arith, strip-cell ws n p l, bitAt-le ws p)
+    go (inr l) = omega (arith, List·getD-eq-default (stripOf ws n) 0 {n = p} (omega (arith, strip-length ws n)))
 
 pub strip-rank : (ws : List ℕ) (n v i : ℕ) → i ≤ n → rank (stripOf ws n) v i ≡ rankOf (bitAt ws) v i
 strip-rank ws n v i h = listed-rank (bitAt ws) n v i h

@@ -2,8 +2,8 @@
 use Prim.Native.Nat.{_+_}
 use native.Mathlib.Omega.{arith}
 use Rattle.words.specs.Strip.{stripOf}
-use Rattle.words.proofs.StripLaws.{strip-length}
-use Rattle.image.proofs.WriteLaws.{strip-le, record-stored}
+use Rattle.words.proofs.StripLaws.{strip-length, strip-le}
+use Rattle.image.proofs.WriteLaws.{record-stored}
 use borrow.Author.Needs.{needs}
 use Rattle.image.proofs.write.write_record.Statement.{statement}
 use Rattle.image.proofs.write.write_record.Tie as tie

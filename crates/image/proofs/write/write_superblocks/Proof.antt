@@ -6,7 +6,8 @@ use lib.ListN.{length}
 use Rattle.words.specs.Strip.{cell, stripOf}
 use Rattle.image.specs.Layout.{superblocksOf}
 use Rattle.image.specs.Writing.{RowPut}
-use Rattle.image.proofs.WriteLaws.{strip-le, row-none, row-more, row-length, row-le}
+use Rattle.words.proofs.StripLaws.{strip-le}
+use Rattle.image.proofs.WriteLaws.{row-none, row-more, row-length, row-le}
 use borrow.Author.Needs.{needs}
 use Rattle.image.proofs.write.write_superblocks.Statement.{statement}
 use Rattle.image.proofs.write.write_superblocks.Tie as tie

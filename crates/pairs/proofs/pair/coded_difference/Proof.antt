@@ -1,5 +1,5 @@
 -- `pairs::pair::coded_difference` meets its contract: a refusal's number, below 100, on top of 2^32. Assumes nothing.
-use mathlib.Core.Path.{_≡_, sym, ap, _∙_}
+use mathlib.Core.Path.{sym, ap, _∙_}
 use Prim.Native.Nat.{ℕ, _+_, _^_}
 use native.Mathlib.Omega.{arith}
 use lib.IntN.{pos}

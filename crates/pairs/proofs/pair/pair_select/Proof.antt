@@ -1,12 +1,12 @@
 -- `pairs::pair::pair_select` meets its contract. Assumes nothing.
-use mathlib.Core.Path.{_≡_, refl, sym, ap, _∙_}
+use mathlib.Core.Path.{_≡_, sym, ap, _∙_}
 use mathlib.Core.Option.{Option, some, none}
 use Prim.Native.Nat.{ℕ, _+_, _*_, _/_, _≤_}
 use native.Mathlib.Omega.{arith}
 use borrow.Author.Needs.{needs}
 use lib.ListN.{length}
 use Rattle.words.specs.Strip.{selectOf, select}
-use Rattle.words.specs.Refusals.{judge, unless, refused, found}
+use Rattle.words.specs.Refusals.{refused, found}
 use Rattle.words.specs.Handles.{mostBits}
 use Rattle.words.proofs.CheckLaws.{judged-pass, unless-refused, unless-passed}
 use Rattle.pairs.specs.Rules.{ruleOf}
