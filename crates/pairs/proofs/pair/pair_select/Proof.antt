@@ -1,18 +1,17 @@
 -- `pairs::pair::pair_select` meets its contract. Assumes nothing.
 use mathlib.Core.Path.{_≡_, sym, ap, _∙_}
 use mathlib.Core.Option.{Option, some, none}
-use Prim.Native.Nat.{ℕ, _+_, _*_, _/_, _≤_}
+use Prim.Native.Nat.{ℕ, _+_, _*_, _/_}
 use native.Mathlib.Omega.{arith}
 use borrow.Author.Needs.{needs}
 use lib.ListN.{length}
 use Rattle.words.specs.Strip.{selectOf, select}
 use Rattle.words.specs.Refusals.{refused, found}
-use Rattle.words.specs.Handles.{mostBits}
 use Rattle.words.proofs.CheckLaws.{judged-pass, unless-refused, unless-passed}
 use Rattle.pairs.specs.Rules.{ruleOf}
 use Rattle.pairs.specs.Working.{joinedBit}
 use Rattle.pairs.specs.Calls.{pairLines, joinedStrip, pairSelectTold}
-use Rattle.pairs.proofs.CheckLaws.{CheckedPair, checked-pair, within}
+use Rattle.pairs.proofs.CheckLaws.{CheckedPair, checked-pair}
 use Rattle.pairs.proofs.JoinLaws.{joined-select, found-below, found-past}
 use Rattle.pairs.proofs.pair.pair_select.Statement.{statement}
 use Rattle.pairs.proofs.pair.pair_select.Tie as tie
@@ -36,21 +35,13 @@ known c =
     (judged-pass (pairLines (a .first) (length (a .xs .now)) (a .second) (length (a .ys .now))) (c .before .before .check-pair .result)
     (c .before .before .check-pair .ensures) (c .enum-told .given .1))
 
--- and where the strips' positions lie
-inside : (c : tie.After-enum-told)
-    → let a = c .before .before .before .before .before .args in
-    (a .first .length ≤ 64 * length (a .xs .now)) × (a .first .length ≤ 64 * length (a .ys .now)) × (a .first .length ≤ mostBits)
-inside c =
-    let a = c .before .before .before .before .before .args in
-    within (a .first) (length (a .xs .now)) (a .second) (length (a .ys .now)) (known c)
-
 add-joined-place : tie.Need-add-joined-place
-add-joined-place c = omega (arith, inside c .2)
+add-joined-place c = let k = known c in omega (arith, k .one .long, k .one .most)
 
 joined-place-requires : tie.Need-joined-place-requires
 joined-place-requires c κs =
     let k = known c in
-    omega (arith, inside c .2, k .one .count, k .other .count, k .one .step, k .one .long, k .other .long, k .capacity)
+    omega (arith, k .one .count, k .other .count, k .one .step, k .one .long, k .one .most, k .capacity)
 
 returns : tie.Need-returns
 returns c =

@@ -89,13 +89,13 @@ few c =
     )
 
 cast-t17 : tie.Need-cast-t17
-cast-t17 c = record { sfits = omega (arith, few c .0) }
+cast-t17 c = record { sfits = omega (arith, few c) }
 
 cast-t18 : tie.Need-cast-t18
-cast-t18 c = record { sfits = omega (arith, few c .1) }
+cast-t18 c = record { sfits = omega (arith, few c) }
 
 sub-t19 : tie.Need-sub-t19
-sub-t19 c = held-difference mostBits (c .before .span-ones .result) (c .span-ones2 .result) (lit< tt) (few c .0) (few c .1) .0
+sub-t19 c = held-difference mostBits _ _ (lit< tt) (omega (arith, few c)) (omega (arith, few c)) .0
 
 returns-3 : tie.Need-returns-3
 returns-3 c =
