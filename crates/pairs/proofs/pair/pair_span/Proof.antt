@@ -84,8 +84,8 @@ few : (c : tie.After-span-ones2) → (c .before .span-ones .result ≤ mostBits)
 few c =
     let a = c .before .before .before .before .before .before .before .before .before .before .args in
     let b : a .b ≤ mostBits = omega (arith, inside (c .before .before .before .before .before) .2, c .before .before .if2 .left) in (
-      most (a .xs .now) (a .a) (a .b) (c .before .span-ones .result) b (c .before .span-ones .ensures),
-      most (a .ys .now) (a .a) (a .b) (c .span-ones2 .result) b (c .span-ones2 .ensures),
+      most _ (a .a) (a .b) (c .before .span-ones .result) b (c .before .span-ones .ensures),
+      most _ (a .a) (a .b) (c .span-ones2 .result) b (c .span-ones2 .ensures),
     )
 
 cast-t17 : tie.Need-cast-t17
@@ -95,7 +95,7 @@ cast-t18 : tie.Need-cast-t18
 cast-t18 c = record { sfits = omega (arith, few c) }
 
 sub-t19 : tie.Need-sub-t19
-sub-t19 c = held-difference mostBits _ _ (lit< tt) (omega (arith, few c)) (omega (arith, few c)) .0
+sub-t19 c = held-difference mostBits (c .before .span-ones .result) (c .span-ones2 .result) (lit< tt) (few c .0) (few c .1) .0
 
 returns-3 : tie.Need-returns-3
 returns-3 c =
