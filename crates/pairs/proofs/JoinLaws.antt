@@ -13,9 +13,9 @@ use lib.Bits as B
 use Rattle.words.specs.Bits.{bit, bitAt, ones, listOf}
 use Rattle.words.specs.Strip.{cell, stripOf, rankOf, selectOf, rank, select}
 use Rattle.words.specs.Words.{placeIn, selectIn}
-use Rattle.words.proofs.Sums.{lt-or, sum-ext, sum-split, length-listOf, getD-listOf, listOf-is}
+use Rattle.words.proofs.Sums.{lt-or, ones-le, sum-ext, sum-split, length-listOf, getD-listOf, listOf-is}
 use Rattle.words.proofs.BitLaws.{bit-lt, bit-le, bit-and, bit-or, bit-xor, bit-not, masked-ones}
-use Rattle.words.proofs.WordLaws.{word-bit, word-ones}
+use Rattle.words.proofs.WordLaws.{bitAt-le, word-bit, word-ones}
 use Rattle.words.proofs.SearchLaws.{KthAt, rank-part, rank-ones, part-select, placeIn-none, placeIn-place, select-at, select-place, select-exists, select-longer, select-none}
 use Rattle.words.proofs.StripLaws.{strip-cell, strip-length, listed-rank, listed-select}
 use Rattle.pairs.specs.Rules.{both, either, onlyFirst, differ, joined}
@@ -118,6 +118,10 @@ masked x m mask e l em h = h ∙ ap (λ (n : ℕ). ones (bit (bitAnd x n)) 64) e
 -- position i is position m of word j
 pub ones-before : (ws : List ℕ) (j m i : ℕ) → m ≤ 64 → i ≡ 64 * j + m → ones (bitAt ws) i ≡ ones (bitAt ws) (64 * j) + ones (bit (getD ws j 0)) m
 ones-before ws j m i l e = ap (ones (bitAt ws)) e ∙ word-ones ws j m l
+
+-- the ones over a span that ends at b are no more than b
+pub span-few : (ws : List ℕ) (a b e m : ℕ) → b ≤ m → ones (bitAt ws) a + e ≡ ones (bitAt ws) b → (e ≤ m) × (ones (bitAt ws) a + e ≡ ones (bitAt ws) b)
+span-few ws a b e m l h = (omega (arith, ones-le (bitAt ws) b (bitAt-le ws)), h)
 
 -- the ones of a strip over a span, by those before its two ends
 pub span-is : (ws : List ℕ) (n a b e : ℕ) → a ≤ b → b ≤ n → ones (bitAt ws) a + e ≡ ones (bitAt ws) b → e ≡ spanOnes (stripOf ws n) a b

@@ -69,7 +69,7 @@ fn words_ones(words: &[u64], from: usize, to: usize) -> usize
 // The ones in positions a to b - 1; only the words that hold these are read.
 pub fn span_ones(words: &[u64], a: usize, b: usize) -> usize
     requires { ⌜ (a ≤ b) × (b ≤ 64 * length (now words)) × (b ≤ mostBits) ⌝ }
-    ensures { λ r. ⌜ ones (bitAt (now (words .entry))) a + r ≡ ones (bitAt (now (words .entry))) b ⌝ }
+    ensures { λ r. ⌜ (r ≤ mostBits) × (ones (bitAt (now (words .entry))) a + r ≡ ones (bitAt (now (words .entry))) b) ⌝ }
 {
     if a == b {
         return 0;

@@ -1,21 +1,20 @@
 -- `pairs::pair::pair_span` meets its contract. Assumes nothing.
 use mathlib.Core.Path.{_≡_, ap, ap₂, _∙_}
-use mathlib.Core.List.{List, [], _∷_}
+use mathlib.Core.List.{[], _∷_}
 use mathlib.Core.Option.{Option, some, none}
-use Prim.Native.Nat.{ℕ, _+_, _*_, _≤_}
+use Prim.Native.Nat.{ℕ, _*_, _≤_}
 use native.Mathlib.Omega.{arith}
 use lib.Dec.{lit<}
 use lib.IntN.{pos, _-ℤ_}
+use mir.Syntax.{w64}
+use mir.Val.{SFits, toZ, ofZ}
 use borrow.Author.Needs.{needs}
 use borrow.Author.Tests.{lt-ltb, le-ltb}
 use lib.ListN.{length}
-use Rattle.words.specs.Bits.{bitAt, ones}
 use Rattle.words.specs.Strip.{stripOf}
 use Rattle.words.specs.Refusals.{judge, unless}
 use Rattle.words.specs.Handles.{mostBits}
 use Rattle.words.specs.Calls.{withinLine, spanLine}
-use Rattle.words.proofs.Sums.{ones-le}
-use Rattle.words.proofs.WordLaws.{bitAt-le}
 use Rattle.words.proofs.CheckLaws.{judged-pass}
 use Rattle.pairs.specs.Calls.{pairLines, spanOnes, spanned, unspanned, pairSpanTold}
 use Rattle.pairs.proofs.CheckLaws.{CheckedPair, checked-pair, within, first-refused, first-passed}
@@ -76,26 +75,22 @@ span-ones-requires c κs = let k = inside (c .before .before .before) in omega (
 span-ones-requires-2 : tie.Need-span-ones-requires-2
 span-ones-requires-2 c κs = let k = inside (c .before .before .before .before) in omega (arith, k .0, k .1, k .2)
 
--- the ones of each strip over the span are no more than the largest capacity
-most : (ws : List ℕ) (a b e : ℕ) → b ≤ mostBits → ones (bitAt ws) a + e ≡ ones (bitAt ws) b → e ≤ mostBits
-most ws a b e l h = omega (arith, ones-le (bitAt ws) b (bitAt-le ws))
-
-few : (c : tie.After-span-ones2) → (c .before .span-ones .result ≤ mostBits) × (c .span-ones2 .result ≤ mostBits)
-few c =
-    let a = c .before .before .before .before .before .before .before .before .before .before .args in
-    let b : a .b ≤ mostBits = omega (arith, inside (c .before .before .before .before .before) .2, c .before .before .if2 .left) in (
-      most _ (a .a) (a .b) (c .before .span-ones .result) b (c .before .span-ones .ensures),
-      most _ (a .a) (a .b) (c .span-ones2 .result) b (c .span-ones2 .ensures),
-    )
-
 cast-t17 : tie.Need-cast-t17
-cast-t17 c = record { sfits = omega (arith, few c) }
+cast-t17 c = record { sfits = omega (arith, c .before .span-ones .ensures .0) }
 
 cast-t18 : tie.Need-cast-t18
-cast-t18 c = record { sfits = omega (arith, few c) }
+cast-t18 c = record { sfits = omega (arith, c .span-ones2 .ensures .0) }
+
+-- the difference as the machine holds it
+difference : (c : tie.After-span-ones2)
+    → let p = c .before .span-ones .result in
+    let q = c .span-ones2 .result in
+    SFits w64 (toZ w64 p -ℤ toZ w64 q) × (toZ w64 (ofZ w64 (toZ w64 p -ℤ toZ w64 q)) ≡ pos p -ℤ pos q)
+difference c =
+    held-difference mostBits (c .before .span-ones .result) (c .span-ones2 .result) (lit< tt) (c .before .span-ones .ensures .0) (c .span-ones2 .ensures .0)
 
 sub-t19 : tie.Need-sub-t19
-sub-t19 c = held-difference mostBits (c .before .span-ones .result) (c .span-ones2 .result) (lit< tt) (few c .0) (few c .1) .0
+sub-t19 c = difference c .0
 
 returns-3 : tie.Need-returns-3
 returns-3 c =
@@ -113,9 +108,9 @@ returns-4 c =
     let la : a .a ≤ a .b = c .before .before .before .before .if1 .left in
     let lb : a .b ≤ a .first .length = c .before .before .if2 .left in
     let lc : a .b ≤ a .second .length = omega (arith, known (c .before .before .before .before .before) .length) in
-    ap spanned (held-difference mostBits p q (lit< tt) (few c .0) (few c .1) .1
-    ∙ ap₂ (λ (x y : ℕ). pos x -ℤ pos y) (span-is (a .xs .now) (a .first .length) (a .a) (a .b) p la lb (c .before .span-ones .ensures))
-    (span-is (a .ys .now) (a .second .length) (a .a) (a .b) q la lc (c .span-ones2 .ensures)))
+    ap spanned (difference c .1
+    ∙ ap₂ (λ (x y : ℕ). pos x -ℤ pos y) (span-is (a .xs .now) (a .first .length) (a .a) (a .b) p la lb (c .before .span-ones .ensures .1))
+    (span-is (a .ys .now) (a .second .length) (a .a) (a .b) q la lc (c .span-ones2 .ensures .1)))
     ∙ passed (c .before .before .before .before .before) none (simp (le-ltb _ _ la, le-ltb _ _ lb))
 
 pub pair-span-spec : {M : Type 1} → statement M

@@ -1,21 +1,23 @@
 -- `pairs::scan::span_ones` meets its contract: the ones before each end, by the word that it lies in. Assumes nothing.
 use mathlib.Core.Path.{_≡_, ap, _∙_}
-use Prim.Native.Nat.{_+_, _-_, _*_, _/_, _%_, _≤_}
+use Prim.Native.Nat.{ℕ, _+_, _-_, _*_, _/_, _%_, _≤_}
 use native.Mathlib.Nat.{add-zero, le-refl}
 use native.Mathlib.Omega.{arith}
 use lib.ListN.{getD}
 use borrow.Author.Needs.{needs}
 use Rattle.words.specs.Bits.{bit, bitAt, ones}
+use Rattle.words.specs.Handles.{mostBits}
 use Rattle.words.proofs.Sums.{sum-mono, ones-le}
 use Rattle.words.proofs.WordLaws.{bitAt-le}
-use Rattle.pairs.proofs.JoinLaws.{masked, ones-before}
+use Rattle.pairs.proofs.JoinLaws.{masked, ones-before, span-few}
 use Rattle.pairs.proofs.scan.span_ones.Statement.{statement}
 use Rattle.pairs.proofs.scan.span_ones.Tie as tie
 
 returns : tie.Need-returns
 returns c =
     let a = c .before .before .args in
-    add-zero (ones (bitAt (a .words .now)) (a .a)) ∙ ap (ones (bitAt (a .words .now))) (c .if1 .taken)
+    span-few (a .words .now) (a .a) (a .b) 0 mostBits (c .before .before .pre .2)
+    (add-zero (ones (bitAt (a .words .now)) (a .a)) ∙ ap (ones (bitAt (a .words .now))) (c .if1 .taken))
 
 mul-x : tie.Need-mul-x
 mul-x c = omega arith
@@ -70,16 +72,12 @@ sub-result c =
 returns-2 : tie.Need-returns-2
 returns-2 c =
     let a = c .before .before .before .before .before .before .before .before .args in
+    let x : ℕ = getD (a .words .now) (a .a / 64) 0 in
     let m : a .a % 64 ≤ a .b % 64 = omega arith in
     let e : a .b ≡ 64 * (a .a / 64) + a .b % 64 = omega arith in
-    omega (
-      arith,
-      first (c .before .before .before),
-      below (c .before .before .before),
-      upto c,
-      sum-mono (bit (getD (a .words .now) (a .a / 64) 0)) m,
-      ones-before (a .words .now) (a .a / 64) (a .b % 64) (a .b) (omega arith) e,
-    )
+    let last = ones-before (a .words .now) (a .a / 64) (a .b % 64) (a .b) (omega arith) e in
+    span-few (a .words .now) (a .a) (a .b) (c .ones-of2 .result - c .before .before .before .ones-of .result) mostBits (c .before .before .before .before .before .before .before .before .pre .2)
+    (omega (arith, first (c .before .before .before), below (c .before .before .before), upto c, sum-mono (bit x) m, last))
 
 ones-of-requires-3 : tie.Need-ones-of-requires-3
 ones-of-requires-3 c κs = search needs
@@ -115,11 +113,16 @@ add-sum c =
     let a = c .before .before .before .before .before .before .before .before .args in
     omega (arith, whole c .1, ones-le (bitAt (a .words .now)) (64 * (a .b / 64)) (bitAt-le (a .words .now)))
 
+-- the ones of the words before the last
+abbrev sum : tie.After-words-ones → ℕ
+sum c = c .before .ones-of3 .result - c .before .before .before .ones-of .result + c .words-ones .result
+
 returns-3 : tie.Need-returns-3
 returns-3 c =
     let a = c .before .before .before .before .before .before .before .before .before .args in
     let e : 64 * (a .b / 64) ≡ a .b = omega arith in
-    whole (c .before) .1 ∙ ap (ones (bitAt (a .words .now))) e
+    span-few (a .words .now) (a .a) (a .b) (sum (c .before)) mostBits (c .before .before .before .before .before .before .before .before .before .pre .2)
+    (whole (c .before) .1 ∙ ap (ones (bitAt (a .words .now))) e)
 
 mul-ones-of : tie.Need-mul-ones-of
 mul-ones-of c = omega arith
@@ -149,7 +152,10 @@ add-result c =
     omega (arith, whole (c .before .before .before .before) .1, last c, ones-le (bitAt (a .words .now)) (a .b) (bitAt-le (a .words .now)))
 
 returns-4 : tie.Need-returns-4
-returns-4 c = omega (arith, whole (c .before .before .before .before) .1, last c)
+returns-4 c =
+    let a = c .before .before .before .before .before .before .before .before .before .before .before .before .args in
+    span-few (a .words .now) (a .a) (a .b) (sum (c .before .before .before .before) + c .ones-of4 .result) mostBits (c .before .before .before .before .before .before .before .before .before .before .before .before .pre .2)
+    (omega (arith, whole (c .before .before .before .before) .1, last c))
 
 pub span-ones-spec : {M : Type 1} → statement M
 span-ones-spec =
