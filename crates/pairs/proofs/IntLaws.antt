@@ -10,11 +10,7 @@ use mir.Syntax.{w64}
 use mir.Val.{SFits, toZ, ofZ}
 use mir.ValLaws.{toZ-pos, toZ-ofZ}
 use borrow.Author.Tests.{ltb-true}
-
--- from -m to m
-pub record Within (m : ℕ) (z : ℤ) : Type 0 where
-  pub least : negℤ (pos m) ≤ℤ z
-  pub most : z ≤ℤ pos m
+use Rattle.pairs.specs.Calls.{Within}
 
 -- a number not above m, and the opposite of one
 up : (m n : ℕ) → n ≤ m → Within m (pos n)
@@ -46,13 +42,10 @@ within-fits m (negsuc n) l h = record { sfits = go m l (h .least) }
     go zero a b = absurd (b .le)
     go (suc m) a b = omega (arith, leb→le n m (b .le))
 
--- a number below 2^63, and a difference of two, as the machine holds them
-pub held : (n : ℕ) → n < 2 ^ 63 → toZ w64 n ≡ pos n
-held n l = toZ-pos w64 n l
-
+-- the difference of two numbers below 2^63, as the machine holds it
 pub held-difference : (m p q : ℕ) → m < 2 ^ 63 → p ≤ m → q ≤ m
     → SFits w64 (toZ w64 p -ℤ toZ w64 q) × (toZ w64 (ofZ w64 (toZ w64 p -ℤ toZ w64 q)) ≡ pos p -ℤ pos q)
 held-difference m p q l hp hq =
-    let e : toZ w64 p -ℤ toZ w64 q ≡ pos p -ℤ pos q = ap₂ (λ (x y : ℤ). x -ℤ y) (held p (omega arith)) (held q (omega arith)) in
+    let e : toZ w64 p -ℤ toZ w64 q ≡ pos p -ℤ pos q = ap₂ (λ (x y : ℤ). x -ℤ y) (toZ-pos w64 p (omega arith)) (toZ-pos w64 q (omega arith)) in
     let f : SFits w64 (pos p -ℤ pos q) = within-fits m (pos p -ℤ pos q) l (difference-within m p q hp hq) in
     (subst (λ (z : ℤ). SFits w64 z) (sym e) f, ap (λ (z : ℤ). toZ w64 (ofZ w64 z)) e ∙ toZ-ofZ w64 (pos p -ℤ pos q) f)

@@ -4,36 +4,45 @@ use mathlib.Core.Bool.{not, _&&_}
 use mathlib.Core.List.{List, [], _∷_, _++_}
 use lib.ListN.{length}
 use lib.Dec.{eqb}
-use lib.IntN.{ℤ, pos, _-ℤ_}
+use lib.IntN.{ℤ, pos, negℤ, _-ℤ_}
+use lib.Signed.{_≤ℤ_}
 use Rattle.words.specs.declared.handle.Handle.{Handle}
 use Rattle.words.specs.Bits.{ones}
 use Rattle.words.specs.Strip.{cell, stripOf, rank, select}
 use Rattle.words.specs.Refusals.{numberOf, Line, _⇒_, judge, unless, Told, value, refused, found}
-use Rattle.words.specs.Handles.{untaken, stripLines}
+use Rattle.words.specs.Handles.{mostBits, untaken, stripLines}
 use Rattle.words.specs.Calls.{withinLine, spanLine}
-use Rattle.pairs.specs.declared.pair.Difference.{Difference}
-use Rattle.pairs.specs.declared.pair.Difference.the-variants.{Value, Refused}
+use Rattle.pairs.specs.declared.pair.Spanned.{Spanned}
+use Rattle.pairs.specs.declared.pair.Spanned.the-variants.{Value, Refused}
 use Rattle.pairs.specs.Rules.{joined}
 
 -- 16 capacity or length unequal
 abbrev pub unequalLine : Handle → Handle → Line
 unequalLine first second = not (eqb (first .capacity) (second .capacity) && eqb (first .length) (second .length)) ⇒ 16
 
--- all calls over two strips first: the first strip's 1, 2; the second's; 16. `xs` and `ys` are the numbers of words lent
+-- all calls over two strips first: the first strip's 1, 2; the second's; 16. `words` and `others` are the numbers of words lent
 abbrev pub pairLines : Handle → ℕ → Handle → ℕ → List Line
-pairLines first xs second ys = stripLines first xs untaken ++ (stripLines second ys untaken ++ (unequalLine first second ∷ []))
+pairLines first words second others = stripLines first words untaken ++ (stripLines second others untaken ++ (unequalLine first second ∷ []))
+
+-- one that takes a position not above the length: the same; 4
+abbrev pub pairWithinTable : Handle → ℕ → Handle → ℕ → ℕ → List Line
+pairWithinTable first words second others i = pairLines first words second others ++ (withinLine (first .length) i ∷ [])
+
+-- one that takes a span: the same; 5; 4
+abbrev pub pairSpanTable : Handle → ℕ → Handle → ℕ → ℕ → ℕ → List Line
+pairSpanTable first words second others a b = pairLines first words second others ++ (spanLine a b ∷ withinLine (first .length) b ∷ [])
 
 -- the strip that a rule makes of the two strips that handles and words hold
 abbrev pub joinedStrip : (ℕ → ℕ → ℕ) → Handle → List ℕ → Handle → List ℕ → List ℕ
 joinedStrip r first ws second vs = joined r (stripOf ws (first .length)) (stripOf vs (second .length))
 
--- the strokes before i that the rule marks: pairLines; 4 i above the length
+-- how many strokes before i the rule marks: 1, 2; 1, 2; 16; 4 i above the length
 abbrev pub pairRankTold : (ℕ → ℕ → ℕ) → Handle → List ℕ → Handle → List ℕ → ℕ → Told
 pairRankTold r first ws second vs i =
-    unless (judge (pairLines first (length ws) second (length vs) ++ (withinLine (first .length) i ∷ []))) refused
+    unless (judge (pairWithinTable first (length ws) second (length vs) i)) refused
     (value (rank (joinedStrip r first ws second vs) 1 i))
 
--- the k-th stroke that the rule marks: pairLines; 6 no such stroke
+-- the k-th stroke that the rule marks: 1, 2; 1, 2; 16; 6 no such stroke
 abbrev pub pairSelectTold : (ℕ → ℕ → ℕ) → Handle → List ℕ → Handle → List ℕ → ℕ → Told
 pairSelectTold r first ws second vs k =
     unless (judge (pairLines first (length ws) second (length vs))) refused (found (select (joinedStrip r first ws second vs) 1 k))
@@ -43,22 +52,32 @@ abbrev pub spanOnes : List ℕ → ℕ → ℕ → ℕ
 spanOnes s a b = ones (λ p. cell s (a + p)) (b - a)
 
 -- what a span tells: an integer, or the number of a refusal
-pub data SpanTold : Type 0 where
-  spanned : ℤ → SpanTold
-  unspanned : ℕ → SpanTold
+pub data SpannedTold : Type 0 where
+  spanned : ℤ → SpannedTold
+  unspanned : ℕ → SpannedTold
 
 -- a span's answer by its integer or number
-abbrev pub spanToldOf : Difference → SpanTold
-spanToldOf (Value z) = spanned z
-spanToldOf (Refused r) = unspanned (numberOf r)
+abbrev pub spannedOf : Spanned → SpannedTold
+spannedOf (Value z) = spanned z
+spannedOf (Refused r) = unspanned (numberOf r)
 
 -- as one number: the integer, or 2^32 plus the refusal's number
-abbrev pub codedSpan : SpanTold → ℤ
+abbrev pub codedSpan : SpannedTold → ℤ
 codedSpan (spanned z) = z
 codedSpan (unspanned n) = pos (2 ^ 32 + n)
 
--- the ones of the first strip in positions a to b - 1 less those of the second: pairLines; 5 a above b; 4 b above the length
-abbrev pub pairSpanTold : Handle → List ℕ → Handle → List ℕ → ℕ → ℕ → SpanTold
+-- from -m to m
+pub record Within (m : ℕ) (z : ℤ) : Type 0 where
+  pub least : negℤ (pos m) ≤ℤ z
+  pub most : z ≤ℤ pos m
+
+-- an integer from -134,217,728 to 134,217,728, or a refusal: its code says which (SmallLaws.coded-span-value, coded-span-refused)
+abbrev pub SmallSpan : SpannedTold → Type 0
+SmallSpan (spanned z) = Within mostBits z
+SmallSpan (unspanned n) = Unit {0}
+
+-- the ones of the first strip in positions a to b - 1 less those of the second: 1, 2; 1, 2; 16; 5 a above b; 4 b above the length
+abbrev pub pairSpanTold : Handle → List ℕ → Handle → List ℕ → ℕ → ℕ → SpannedTold
 pairSpanTold first ws second vs a b =
-    unless (judge (pairLines first (length ws) second (length vs) ++ (spanLine a b ∷ withinLine (first .length) b ∷ []))) unspanned
+    unless (judge (pairSpanTable first (length ws) second (length vs) a b)) unspanned
     (spanned (pos (spanOnes (stripOf ws (first .length)) a b) -ℤ pos (spanOnes (stripOf vs (second .length)) a b)))

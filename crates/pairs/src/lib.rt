@@ -4,8 +4,8 @@ mod rule;
 mod scan;
 
 // Open to users: no `requires`, and a promise for every input.
-pub use pair::Difference;
-pub use pair::coded_difference;
+pub use pair::Spanned;
+pub use pair::coded_span;
 pub use pair::pair_rank;
 pub use pair::pair_select;
 pub use pair::pair_span;
@@ -13,3 +13,4 @@ pub use rule::Rule;
 
 // For the layers above.
 pub use pair::check_pair;
+pub use pair::check_pair_within;

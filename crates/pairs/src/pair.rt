@@ -3,7 +3,7 @@ ghost use mathlib.Core.Path.{_≡_};
 ghost use lib.ListN.{length};
 ghost use Rattle.words.specs.Refusals.{judge, verdictOf, toldOf};
 ghost use Rattle.pairs.specs.Rules.{ruleOf};
-ghost use Rattle.pairs.specs.Calls.{spanToldOf, codedSpan, pairLines, pairRankTold, pairSelectTold, pairSpanTold};
+ghost use Rattle.pairs.specs.Calls.{spannedOf, codedSpan, pairLines, pairWithinTable, pairSpanTable, pairRankTold, pairSelectTold, pairSpanTold};
 use super::rule::Rule;
 use super::scan::joined_ones;
 use super::scan::joined_place;
@@ -17,30 +17,30 @@ use words::check_strip;
 use words::number;
 
 // What a span answers: a signed number, or its refusal.
-pub enum Difference {
+pub enum Spanned {
     Value(i64),
     Refused(Refusal),
 }
 
 // A span's answer as one number: the value, or 2^32 plus the refusal's number.
-pub fn coded_difference(d: Difference) -> i64
-    ensures { λ r. ⌜ r ≡ codedSpan (spanToldOf d) ⌝ }
+pub fn coded_span(d: Spanned) -> i64
+    ensures { λ r. ⌜ r ≡ codedSpan (spannedOf d) ⌝ }
 {
     match d {
-        Difference::Value(z) => z,
-        Difference::Refused(r) => (4294967296 + number(r)) as i64,
+        Spanned::Value(z) => z,
+        Spanned::Refused(r) => (4294967296 + number(r)) as i64,
     }
 }
 
-// The checks of a call over two strips: the first strip's 1, 2; the second's; 16. `xs` and `ys` are the numbers of words lent.
-pub fn check_pair(first: Handle, xs: usize, second: Handle, ys: usize) -> Verdict
-    ensures { λ r. ⌜ verdictOf r ≡ judge (pairLines first xs second ys) ⌝ }
+// The checks of a call over two strips: the first strip's 1, 2; the second's; 16. `words` and `others` are the numbers of words lent.
+pub fn check_pair(first: Handle, words: usize, second: Handle, others: usize) -> Verdict
+    ensures { λ r. ⌜ verdictOf r ≡ judge (pairLines first words second others) ⌝ }
 {
-    let verdict = check_strip(first, xs, UNTAKEN);
+    let verdict = check_strip(first, words, UNTAKEN);
     let Verdict::Pass = verdict else {
         return verdict;
     };
-    let other = check_strip(second, ys, UNTAKEN);
+    let other = check_strip(second, others, UNTAKEN);
     let Verdict::Pass = other else {
         return other;
     };
@@ -53,7 +53,51 @@ pub fn check_pair(first: Handle, xs: usize, second: Handle, ys: usize) -> Verdic
     Verdict::Pass
 }
 
-// The strokes before i that the rule marks.
+// The checks of one that takes a position not above the length: those of two strips, then 4.
+pub fn check_pair_within(
+    first: Handle,
+    words: usize,
+    second: Handle,
+    others: usize,
+    i: usize,
+) -> Verdict
+    ensures { λ r. ⌜ verdictOf r ≡ judge (pairWithinTable first words second others i) ⌝ }
+{
+    let verdict = check_pair(first, words, second, others);
+    let Verdict::Pass = verdict else {
+        return verdict;
+    };
+    if first.length < i {
+        return Verdict::Refuse(Refusal::Position);
+    }
+    Verdict::Pass
+}
+
+// The checks of one that takes a span: those of two strips, then 5, 4.
+fn check_pair_span(
+    first: Handle,
+    words: usize,
+    second: Handle,
+    others: usize,
+    a: usize,
+    b: usize,
+) -> Verdict
+    ensures { λ r. ⌜ verdictOf r ≡ judge (pairSpanTable first words second others a b) ⌝ }
+{
+    let verdict = check_pair(first, words, second, others);
+    let Verdict::Pass = verdict else {
+        return verdict;
+    };
+    if b < a {
+        return Verdict::Refuse(Refusal::Span);
+    }
+    if first.length < b {
+        return Verdict::Refuse(Refusal::Position);
+    }
+    Verdict::Pass
+}
+
+// How many strokes before i the rule marks.
 pub fn pair_rank(
     rule: Rule,
     first: Handle,
@@ -64,14 +108,9 @@ pub fn pair_rank(
 ) -> Answer
     ensures { λ r. ⌜ toldOf r ≡ pairRankTold (ruleOf rule) first (now (xs .entry)) second (now (ys .entry)) i ⌝ }
 {
-    match check_pair(first, xs.len(), second, ys.len()) {
+    match check_pair_within(first, xs.len(), second, ys.len(), i) {
         Verdict::Refuse(r) => Answer::Refused(r),
-        Verdict::Pass => {
-            if first.length < i {
-                return Answer::Refused(Refusal::Position);
-            }
-            Answer::Value(joined_ones(rule, xs, ys, i) as u64)
-        }
+        Verdict::Pass => Answer::Value(joined_ones(rule, xs, ys, i) as u64),
     }
 }
 
@@ -90,6 +129,9 @@ pub fn pair_select(
         Verdict::Refuse(r) => Answer::Refused(r),
         Verdict::Pass => {
             let n = first.length;
+            if n <= k {
+                return Answer::Refused(Refusal::NotFound);
+            }
             let p = joined_place(rule, xs, ys, (n + 63) / 64, k);
             if p < n {
                 Answer::Value(p as u64)
@@ -108,21 +150,15 @@ pub fn pair_span(
     ys: &[u64],
     a: usize,
     b: usize,
-) -> Difference
-    ensures { λ r. ⌜ spanToldOf r ≡ pairSpanTold first (now (xs .entry)) second (now (ys .entry)) a b ⌝ }
+) -> Spanned
+    ensures { λ r. ⌜ spannedOf r ≡ pairSpanTold first (now (xs .entry)) second (now (ys .entry)) a b ⌝ }
 {
-    match check_pair(first, xs.len(), second, ys.len()) {
-        Verdict::Refuse(r) => Difference::Refused(r),
+    match check_pair_span(first, xs.len(), second, ys.len(), a, b) {
+        Verdict::Refuse(r) => Spanned::Refused(r),
         Verdict::Pass => {
-            if b < a {
-                return Difference::Refused(Refusal::Span);
-            }
-            if first.length < b {
-                return Difference::Refused(Refusal::Position);
-            }
             let p = span_ones(xs, a, b);
             let q = span_ones(ys, a, b);
-            Difference::Value((p as i64) - (q as i64))
+            Spanned::Value((p as i64) - (q as i64))
         }
     }
 }

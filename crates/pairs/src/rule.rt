@@ -3,7 +3,7 @@ ghost use mathlib.Core.Path.{_≡_};
 ghost use Rattle.pairs.specs.Rules.{ruleOf};
 ghost use Rattle.pairs.specs.Working.{JoinedWord};
 
-// Which strokes are counted.
+// Which strokes a count or a find takes: those that the rule marks, giving 1.
 pub enum Rule {
     // those that both strips mark
     Both,

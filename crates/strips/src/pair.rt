@@ -1,115 +1,150 @@
-// The calls over two strips, each on its words alone. The first strip comes as capacity c, length n and words xs, the second as d, m and ys. A refusal comes
-// as 2^32 plus its number.
+// The calls over two strips, each on its words alone: the first strip's capacity, length and words, then the second's. A refusal comes as 2^32 plus its number.
 ghost use mathlib.Core.Path.{_≡_};
 ghost use Rattle.words.specs.Refusals.{coded as codedOf};
 ghost use Rattle.words.specs.Handles.{handle};
 ghost use Rattle.pairs.specs.Rules.{both, either, onlyFirst, differ, ruleOf};
 ghost use Rattle.pairs.specs.Calls.{pairRankTold, pairSelectTold, pairSpanTold, codedSpan};
 use pairs::Rule;
-use pairs::coded_difference;
+use pairs::coded_span;
 use pairs::pair_rank;
 use pairs::pair_select;
 use pairs::pair_span;
 use words::Handle;
 use words::coded;
 
-// The strokes before i that a rule marks.
+// How many strokes before i a rule marks.
 fn rule_rank(rule: Rule, c: u64, n: u64, xs: &[u64], d: u64, m: u64, ys: &[u64], i: u64) -> u64
-    ensures { λ r. ⌜ r ≡ codedOf (pairRankTold (ruleOf rule) (handle c n) (now (xs .entry)) (handle d m) (now (ys .entry)) i) ⌝ }
+    ensures { λ r. ⌜ r ≡ codedOf (pairRankTold (ruleOf rule) (handle capacity length) (now (words .entry)) (handle capacity2 length2) (now (words2 .entry)) i) ⌝ }
 {
     coded(pair_rank(
         rule,
-        Handle::new(c as usize, n as usize),
-        xs,
-        Handle::new(d as usize, m as usize),
-        ys,
+        Handle::new(capacity as usize, length as usize),
+        words,
+        Handle::new(capacity2 as usize, length2 as usize),
+        words2,
         i as usize,
     ))
 }
 
-// The strokes before i that both strips mark.
+// How many strokes before i both strips mark.
 #[no_mangle]
 pub extern "C" fn strip_pair_both(
-    c: u64,
-    n: u64,
-    xs: &[u64],
-    d: u64,
-    m: u64,
-    ys: &[u64],
+    capacity: u64,
+    length: u64,
+    words: &[u64],
+    capacity2: u64,
+    length2: u64,
+    words2: &[u64],
     i: u64,
 ) -> u64
-    ensures { λ r. ⌜ r ≡ codedOf (pairRankTold both (handle c n) (now (xs .entry)) (handle d m) (now (ys .entry)) i) ⌝ }
+    ensures { λ r. ⌜ r ≡ codedOf (pairRankTold both (handle capacity length) (now (words .entry)) (handle capacity2 length2) (now (words2 .entry)) i) ⌝ }
 {
-    rule_rank(Rule::Both, c, n, xs, d, m, ys, i)
+    rule_rank(
+        Rule::Both,
+        capacity,
+        length,
+        words,
+        capacity2,
+        length2,
+        words2,
+        i,
+    )
 }
 
-// The strokes before i that either marks.
+// How many strokes before i either marks.
 #[no_mangle]
 pub extern "C" fn strip_pair_either(
-    c: u64,
-    n: u64,
-    xs: &[u64],
-    d: u64,
-    m: u64,
-    ys: &[u64],
+    capacity: u64,
+    length: u64,
+    words: &[u64],
+    capacity2: u64,
+    length2: u64,
+    words2: &[u64],
     i: u64,
 ) -> u64
-    ensures { λ r. ⌜ r ≡ codedOf (pairRankTold either (handle c n) (now (xs .entry)) (handle d m) (now (ys .entry)) i) ⌝ }
+    ensures { λ r. ⌜ r ≡ codedOf (pairRankTold either (handle capacity length) (now (words .entry)) (handle capacity2 length2) (now (words2 .entry)) i) ⌝ }
 {
-    rule_rank(Rule::Either, c, n, xs, d, m, ys, i)
+    rule_rank(
+        Rule::Either,
+        capacity,
+        length,
+        words,
+        capacity2,
+        length2,
+        words2,
+        i,
+    )
 }
 
-// The strokes before i that only the first marks.
+// How many strokes before i only the first marks.
 #[no_mangle]
 pub extern "C" fn strip_pair_only_first(
-    c: u64,
-    n: u64,
-    xs: &[u64],
-    d: u64,
-    m: u64,
-    ys: &[u64],
+    capacity: u64,
+    length: u64,
+    words: &[u64],
+    capacity2: u64,
+    length2: u64,
+    words2: &[u64],
     i: u64,
 ) -> u64
-    ensures { λ r. ⌜ r ≡ codedOf (pairRankTold onlyFirst (handle c n) (now (xs .entry)) (handle d m) (now (ys .entry)) i) ⌝ }
+    ensures { λ r. ⌜ r ≡ codedOf (pairRankTold onlyFirst (handle capacity length) (now (words .entry)) (handle capacity2 length2) (now (words2 .entry)) i) ⌝ }
 {
-    rule_rank(Rule::OnlyFirst, c, n, xs, d, m, ys, i)
+    rule_rank(
+        Rule::OnlyFirst,
+        capacity,
+        length,
+        words,
+        capacity2,
+        length2,
+        words2,
+        i,
+    )
 }
 
-// The strokes before i that they judge differently.
+// How many strokes before i the strips judge differently.
 #[no_mangle]
 pub extern "C" fn strip_pair_differ(
-    c: u64,
-    n: u64,
-    xs: &[u64],
-    d: u64,
-    m: u64,
-    ys: &[u64],
+    capacity: u64,
+    length: u64,
+    words: &[u64],
+    capacity2: u64,
+    length2: u64,
+    words2: &[u64],
     i: u64,
 ) -> u64
-    ensures { λ r. ⌜ r ≡ codedOf (pairRankTold differ (handle c n) (now (xs .entry)) (handle d m) (now (ys .entry)) i) ⌝ }
+    ensures { λ r. ⌜ r ≡ codedOf (pairRankTold differ (handle capacity length) (now (words .entry)) (handle capacity2 length2) (now (words2 .entry)) i) ⌝ }
 {
-    rule_rank(Rule::Differ, c, n, xs, d, m, ys, i)
+    rule_rank(
+        Rule::Differ,
+        capacity,
+        length,
+        words,
+        capacity2,
+        length2,
+        words2,
+        i,
+    )
 }
 
 // The position of the k-th stroke, k from 0, that they judge differently.
 #[no_mangle]
 pub extern "C" fn strip_pair_find(
-    c: u64,
-    n: u64,
-    xs: &[u64],
-    d: u64,
-    m: u64,
-    ys: &[u64],
+    capacity: u64,
+    length: u64,
+    words: &[u64],
+    capacity2: u64,
+    length2: u64,
+    words2: &[u64],
     k: u64,
 ) -> u64
-    ensures { λ r. ⌜ r ≡ codedOf (pairSelectTold differ (handle c n) (now (xs .entry)) (handle d m) (now (ys .entry)) k) ⌝ }
+    ensures { λ r. ⌜ r ≡ codedOf (pairSelectTold differ (handle capacity length) (now (words .entry)) (handle capacity2 length2) (now (words2 .entry)) k) ⌝ }
 {
     coded(pair_select(
         Rule::Differ,
-        Handle::new(c as usize, n as usize),
-        xs,
-        Handle::new(d as usize, m as usize),
-        ys,
+        Handle::new(capacity as usize, length as usize),
+        words,
+        Handle::new(capacity2 as usize, length2 as usize),
+        words2,
         k as usize,
     ))
 }
@@ -117,22 +152,22 @@ pub extern "C" fn strip_pair_find(
 // The ones of the first in positions a to b - 1 less those of the second.
 #[no_mangle]
 pub extern "C" fn strip_pair_span(
-    c: u64,
-    n: u64,
-    xs: &[u64],
-    d: u64,
-    m: u64,
-    ys: &[u64],
+    capacity: u64,
+    length: u64,
+    words: &[u64],
+    capacity2: u64,
+    length2: u64,
+    words2: &[u64],
     a: u64,
     b: u64,
 ) -> i64
-    ensures { λ r. ⌜ r ≡ codedSpan (pairSpanTold (handle c n) (now (xs .entry)) (handle d m) (now (ys .entry)) a b) ⌝ }
+    ensures { λ r. ⌜ r ≡ codedSpan (pairSpanTold (handle capacity length) (now (words .entry)) (handle capacity2 length2) (now (words2 .entry)) a b) ⌝ }
 {
-    coded_difference(pair_span(
-        Handle::new(c as usize, n as usize),
-        xs,
-        Handle::new(d as usize, m as usize),
-        ys,
+    coded_span(pair_span(
+        Handle::new(capacity as usize, length as usize),
+        words,
+        Handle::new(capacity2 as usize, length2 as usize),
+        words2,
         a as usize,
         b as usize,
     ))

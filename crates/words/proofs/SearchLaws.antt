@@ -211,6 +211,28 @@ select-le f n v k = go (lt-or k (rankOf f v n))
     go (inl l) = omega (arith, placeIn-place f n v k l .below)
     go (inr l) = omega (arith, placeIn-none f n v k l)
 
+-- an answer among m cells, of which the first n count: a position below n is theirs
+pub placeIn-below : (f : ℕ → ℕ) (n m v k p : ℕ) → n ≤ m → p ≡ placeIn m (selectOf f m v k) → p < n → selectOf f n v k ≡ some p
+placeIn-below f n m v k p h e l = go (lt-or k (rankOf f v m))
+  where
+    go : (k < rankOf f v m) ⊎ (rankOf f v m ≤ k) → selectOf f n v k ≡ some p
+    go (inl a) =
+        let w : KthAt f m v k p = subst (λ (q : ℕ). KthAt f m v k q) (sym e) (placeIn-place f m v k a) in
+        select-at f n v k p (record { below = l; held = w .held; rank = w .rank })
+    go (inr a) = absurd (omega (arith, placeIn-none f m v k a))
+
+-- and past them there is none
+pub placeIn-past : (f : ℕ → ℕ) (n m v k p : ℕ) → n ≤ m → p ≡ placeIn m (selectOf f m v k) → n ≤ p → selectOf f n v k ≡ none
+placeIn-past f n m v k p h e l = go (lt-or k (rankOf f v n))
+  where
+    go : (k < rankOf f v n) ⊎ (rankOf f v n ≤ k) → selectOf f n v k ≡ none
+    go (inl a) =
+        let q : ℕ = placeIn n (selectOf f n v k) in
+        let w : KthAt f n v k q = placeIn-place f n v k a in
+        let b : q < n = w .below in
+        absurd (omega (arith, e, placeIn-at f m v k q (record { below = omega arith; held = w .held; rank = w .rank })))
+    go (inr a) = select-none f n v k a
+
 -- ---- cells g that are a part of f, w of them from a on
 pub rank-ext : (f g : ℕ → ℕ) (v n : ℕ) → ((p : ℕ) → p < n → f p ≡ g p) → rankOf f v n ≡ rankOf g v n
 rank-ext f g v n h = sum-ext (holds f v) (holds g v) n (λ p l. ap (λ (x : ℕ). cond (eqb x v) 1 0) (h p l))

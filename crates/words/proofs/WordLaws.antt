@@ -127,6 +127,10 @@ word-bit ws j i h =
 pub word-ones : (ws : List ℕ) (j i : ℕ) → i ≤ 64 → ones (bitAt ws) (64 * j + i) ≡ ones (bitAt ws) (64 * j) + ones (bit (getD ws j 0)) i
 word-ones ws j i h = part-ones (bitAt ws) (bit (getD ws j 0)) (64 * j) 64 i (λ p l. sym (word-bit ws j p l)) h
 
+-- those below position p, which is position i of word j
+pub ones-before : (ws : List ℕ) (j i p : ℕ) → i ≤ 64 → p ≡ 64 * j + i → ones (bitAt ws) p ≡ ones (bitAt ws) (64 * j) + ones (bit (getD ws j 0)) i
+ones-before ws j i p h e = ap (ones (bitAt ws)) e ∙ word-ones ws j i h
+
 pub bitAt-le : (ws : List ℕ) (p : ℕ) → bitAt ws p ≤ 1
 bitAt-le ws p = bit-le (getD ws (p / 64) 0) (p % 64)
 

@@ -22,7 +22,7 @@ enum-told-2 c = search needs
 returns : tie.Need-returns
 returns c =
     let a = c .before .before .before .args in
-    refused-first (stripLines (a .first) (a .xs) untaken) (stripLines (a .second) (a .ys) untaken ++ (unequalLine (a .first) (a .second) ∷ [])) _ _ (c .before .before .check-strip .ensures)
+    refused-first (stripLines (a .first) (a .words) untaken) (stripLines (a .second) (a .others) untaken ++ (unequalLine (a .first) (a .second) ∷ [])) _ _ (c .before .before .check-strip .ensures)
     (c .enum-told2 .given .1)
 
 check-strip-requires-2 : tie.Need-check-strip-requires-2
@@ -37,24 +37,24 @@ enum-told-4 c = search needs
 -- the first strip passed: the second's lines decide
 one : (c : tie.After-enum-told)
     → let a = c .before .before .before .args in
-    judge (pairLines (a .first) (a .xs) (a .second) (a .ys)) ≡ judge (stripLines (a .second) (a .ys) untaken ++ (unequalLine (a .first) (a .second) ∷ []))
+    judge (pairLines (a .first) (a .words) (a .second) (a .others)) ≡ judge (stripLines (a .second) (a .others) untaken ++ (unequalLine (a .first) (a .second) ∷ []))
 one c =
     let a = c .before .before .before .args in
-    passed-first (stripLines (a .first) (a .xs) untaken) (stripLines (a .second) (a .ys) untaken ++ (unequalLine (a .first) (a .second) ∷ [])) _ (c .before .before .check-strip .ensures)
+    passed-first (stripLines (a .first) (a .words) untaken) (stripLines (a .second) (a .others) untaken ++ (unequalLine (a .first) (a .second) ∷ [])) _ (c .before .before .check-strip .ensures)
     (c .enum-told .given .1)
 
 returns-2 : tie.Need-returns-2
 returns-2 c =
     let a = c .before .before .before .before .before .before .args in
-    refused-first (stripLines (a .second) (a .ys) untaken) (unequalLine (a .first) (a .second) ∷ []) _ _ (c .before .before .check-strip2 .ensures) (c .enum-told4 .given .1) ∙ sym (one (c .before .before .before))
+    refused-first (stripLines (a .second) (a .others) untaken) (unequalLine (a .first) (a .second) ∷ []) _ _ (c .before .before .check-strip2 .ensures) (c .enum-told4 .given .1) ∙ sym (one (c .before .before .before))
 
 -- both passed: the last line decides
 both : (c : tie.After-enum-told3)
     → let a = c .before .before .before .before .before .before .args in
-    judge (pairLines (a .first) (a .xs) (a .second) (a .ys)) ≡ judge (unequalLine (a .first) (a .second) ∷ [])
+    judge (pairLines (a .first) (a .words) (a .second) (a .others)) ≡ judge (unequalLine (a .first) (a .second) ∷ [])
 both c =
     let a = c .before .before .before .before .before .before .args in
-    one (c .before .before .before) ∙ passed-first (stripLines (a .second) (a .ys) untaken) (unequalLine (a .first) (a .second) ∷ []) _ (c .before .before .check-strip2 .ensures) (c .enum-told3 .given .1)
+    one (c .before .before .before) ∙ passed-first (stripLines (a .second) (a .others) untaken) (unequalLine (a .first) (a .second) ∷ []) _ (c .before .before .check-strip2 .ensures) (c .enum-told3 .given .1)
 
 returns-3 : tie.Need-returns-3
 returns-3 c = sym (both (c .before .before .before) ∙ simp (ne-eqb _ _ (c .if1 .taken)))

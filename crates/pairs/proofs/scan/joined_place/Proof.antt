@@ -1,5 +1,5 @@
 -- `pairs::scan::joined_place` meets its contract. The invariant: the words before j are passed, and `left` of the k remain. Assumes nothing.
-use mathlib.Core.Path.{_≡_, ap}
+use mathlib.Core.Path.{_≡_, sym, ap}
 use Prim.Native.Nat.{ℕ, _+_, _-_, _*_, _≤_}
 use native.Mathlib.Nat.{le-refl}
 use native.Mathlib.Omega.{arith}
@@ -7,9 +7,10 @@ use borrow.Author.Needs.{needs}
 use Rattle.words.specs.Strip.{holds, rankOf, selectOf}
 use Rattle.words.specs.Words.{placeIn}
 use Rattle.words.proofs.Sums.{sum-zero}
+use Rattle.words.proofs.SearchLaws.{placeIn-none}
 use Rattle.pairs.specs.Rules.{ruleOf}
 use Rattle.pairs.specs.Working.{joinedBit}
-use Rattle.pairs.proofs.JoinLaws.{word-rank, word-select, words-none}
+use Rattle.pairs.proofs.JoinLaws.{joined-word-ones, joined-word-select}
 use Rattle.pairs.proofs.scan.joined_place.Statement.{statement}
 use Rattle.pairs.proofs.scan.joined_place.Tie as tie
 
@@ -59,7 +60,7 @@ place c =
     let a = c .before .before .before .before .before .before .before .before .before .before .args in
     let l = c .before .before .before .before .before .before .before .loop in
     let j = c .before .before .before .join in
-    let w = word-select (ruleOf (a .rule)) (a .xs .now) (a .ys .now) (l .j) (j .result) (j .ensures) (a .to) (a .k) (l .left) (c .select-in-word .result)
+    let w = joined-word-select (ruleOf (a .rule)) (a .xs .now) (a .ys .now) (l .j) (j .result) (j .ensures) (a .to) (a .k) (l .left) (c .select-in-word .result)
     (c .before .before .before .before .before .before .loop-test .taken) (l .inv .1) (omega (arith, c .before .if1 .taken, c .before .before .ones-of .ensures))
     (c .select-in-word .ensures) in
     (omega (arith, w .0), w .1)
@@ -82,7 +83,7 @@ loop-again c =
     let l = c .before .before .before .before .before .before .loop in
     let j = c .before .before .join in
     let e : 64 * l .j + 64 ≡ 64 * (l .j + 1) = omega arith in
-    let w = word-rank (ruleOf (a .rule)) (a .xs .now) (a .ys .now) (l .j) (j .result) (j .ensures) 64 (le-refl 64) in
+    let w = joined-word-ones (ruleOf (a .rule)) (a .xs .now) (a .ys .now) (l .j) (j .result) (j .ensures) 64 (le-refl 64) in
     let at = ap (rankOf (joinedBit (ruleOf (a .rule)) (a .xs .now) (a .ys .now)) 1) e in
     (omega arith, omega (arith, l .inv .1, w, at, c .before .ones-of .ensures))
 
@@ -95,7 +96,7 @@ returns-2 c =
     let l = c .before .loop in
     let f : ℕ → ℕ = joinedBit (ruleOf (a .rule)) (a .xs .now) (a .ys .now) in
     let e : 64 * l .j ≡ 64 * a .to = omega arith in
-    words-none f (a .to) (a .k) (l .left) (omega (arith, l .inv .1, ap (rankOf f 1) e))
+    sym (placeIn-none f (64 * a .to) 1 (a .k) (omega (arith, l .inv .1, ap (rankOf f 1) e)))
 
 pub joined-place-spec : {M : Type 1} → statement M
 joined-place-spec =

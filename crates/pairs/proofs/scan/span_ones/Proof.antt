@@ -8,15 +8,16 @@ use borrow.Author.Needs.{needs}
 use Rattle.words.specs.Bits.{bit, bitAt, ones}
 use Rattle.words.specs.Handles.{mostBits}
 use Rattle.words.proofs.Sums.{sum-mono, ones-le}
-use Rattle.words.proofs.WordLaws.{bitAt-le}
-use Rattle.pairs.proofs.JoinLaws.{masked, ones-before, span-few}
+use Rattle.words.proofs.BitLaws.{masked-is}
+use Rattle.words.proofs.WordLaws.{bitAt-le, ones-before}
+use Rattle.pairs.proofs.JoinLaws.{span-counted}
 use Rattle.pairs.proofs.scan.span_ones.Statement.{statement}
 use Rattle.pairs.proofs.scan.span_ones.Tie as tie
 
 returns : tie.Need-returns
 returns c =
     let a = c .before .before .args in
-    span-few (a .words .now) (a .a) (a .b) 0 mostBits (c .before .before .pre .2)
+    span-counted (a .words .now) (a .a) (a .b) 0 mostBits (c .before .before .pre .2)
     (add-zero (ones (bitAt (a .words .now)) (a .a)) ∙ ap (ones (bitAt (a .words .now))) (c .if1 .taken))
 
 mul-x : tie.Need-mul-x
@@ -37,7 +38,7 @@ below : (c : tie.After-ones-of)
     c .ones-of .result ≡ ones (bit (getD (a .words .now) (a .a / 64) 0)) (a .a % 64)
 below c =
     let a = c .before .before .before .before .before .args in
-    masked (getD (a .words .now) (a .a / 64) 0) (a .a % 64) (c .before .low-mask .result) (c .ones-of .result) (omega arith) (c .before .low-mask .ensures)
+    masked-is (getD (a .words .now) (a .a / 64) 0) (a .a % 64) (c .before .low-mask .result) (c .ones-of .result) (omega arith) (c .before .low-mask .ensures)
     (c .ones-of .ensures)
 
 -- and with the ones before that word those before a
@@ -60,7 +61,7 @@ upto : (c : tie.After-ones-of2)
     c .ones-of2 .result ≡ ones (bit (getD (a .words .now) (a .a / 64) 0)) (a .b % 64)
 upto c =
     let a = c .before .before .before .before .before .before .before .before .args in
-    masked (getD (a .words .now) (a .a / 64) 0) (a .b % 64) (c .before .low-mask2 .result) (c .ones-of2 .result) (omega arith) (c .before .low-mask2 .ensures)
+    masked-is (getD (a .words .now) (a .a / 64) 0) (a .b % 64) (c .before .low-mask2 .result) (c .ones-of2 .result) (omega arith) (c .before .low-mask2 .ensures)
     (c .ones-of2 .ensures)
 
 sub-result : tie.Need-sub-result
@@ -76,7 +77,7 @@ returns-2 c =
     let m : a .a % 64 ≤ a .b % 64 = omega arith in
     let e : a .b ≡ 64 * (a .a / 64) + a .b % 64 = omega arith in
     let last = ones-before (a .words .now) (a .a / 64) (a .b % 64) (a .b) (omega arith) e in
-    span-few (a .words .now) (a .a) (a .b) (c .ones-of2 .result - c .before .before .before .ones-of .result) mostBits (c .before .before .before .before .before .before .before .before .pre .2)
+    span-counted (a .words .now) (a .a) (a .b) (c .ones-of2 .result - c .before .before .before .ones-of .result) mostBits (c .before .before .before .before .before .before .before .before .pre .2)
     (omega (arith, first (c .before .before .before), below (c .before .before .before), upto c, sum-mono (bit x) m, last))
 
 ones-of-requires-3 : tie.Need-ones-of-requires-3
@@ -121,7 +122,7 @@ returns-3 : tie.Need-returns-3
 returns-3 c =
     let a = c .before .before .before .before .before .before .before .before .before .args in
     let e : 64 * (a .b / 64) ≡ a .b = omega arith in
-    span-few (a .words .now) (a .a) (a .b) (sum (c .before)) mostBits (c .before .before .before .before .before .before .before .before .before .pre .2)
+    span-counted (a .words .now) (a .a) (a .b) (sum (c .before)) mostBits (c .before .before .before .before .before .before .before .before .before .pre .2)
     (whole (c .before) .1 ∙ ap (ones (bitAt (a .words .now))) e)
 
 mul-ones-of : tie.Need-mul-ones-of
@@ -142,7 +143,7 @@ last : (c : tie.After-ones-of4)
     ones (bitAt (a .words .now)) (64 * (a .b / 64)) + c .ones-of4 .result ≡ ones (bitAt (a .words .now)) (a .b)
 last c =
     let a = c .before .before .before .before .before .before .before .before .before .before .before .before .args in
-    let low = masked (getD (a .words .now) (a .b / 64) 0) (a .b % 64) (c .before .low-mask3 .result) (c .ones-of4 .result) (omega arith)
+    let low = masked-is (getD (a .words .now) (a .b / 64) 0) (a .b % 64) (c .before .low-mask3 .result) (c .ones-of4 .result) (omega arith)
     (c .before .low-mask3 .ensures) (c .ones-of4 .ensures) in
     omega (arith, low, ones-before (a .words .now) (a .b / 64) (a .b % 64) (a .b) (omega arith) (omega arith))
 
@@ -154,7 +155,7 @@ add-result c =
 returns-4 : tie.Need-returns-4
 returns-4 c =
     let a = c .before .before .before .before .before .before .before .before .before .before .before .before .args in
-    span-few (a .words .now) (a .a) (a .b) (sum (c .before .before .before .before) + c .ones-of4 .result) mostBits (c .before .before .before .before .before .before .before .before .before .before .before .before .pre .2)
+    span-counted (a .words .now) (a .a) (a .b) (sum (c .before .before .before .before) + c .ones-of4 .result) mostBits (c .before .before .before .before .before .before .before .before .before .before .before .before .pre .2)
     (omega (arith, whole (c .before .before .before .before) .1, last c))
 
 pub span-ones-spec : {M : Type 1} → statement M

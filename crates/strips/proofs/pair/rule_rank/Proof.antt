@@ -25,7 +25,7 @@ returns c =
     let a = c .before .before .before .before .before .before .args in
     c .coded .ensures
     ∙ ap coded (c .before .pair-rank .ensures
-    ∙ ap₂ (λ (h g : Handle). pairRankTold (ruleOf (a .rule)) h (a .xs .now) g (a .ys .now) (a .i)) (c .before .before .before .new .ensures) (c .before .before .new2 .ensures))
+    ∙ ap₂ (λ (h g : Handle). pairRankTold (ruleOf (a .rule)) h (a .words .now) g (a .words2 .now) (a .i)) (c .before .before .before .new .ensures) (c .before .before .new2 .ensures))
 
 pub rule-rank-spec : {M : Type 1} → statement M
 rule-rank-spec = tie.close (tie.spec new-requires new-requires-2 pair-rank-requires coded-requires returns)

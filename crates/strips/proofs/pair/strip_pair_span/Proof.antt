@@ -1,4 +1,4 @@
--- `strips::pair::strip_pair_span` meets its contract: it is that of `pair_span`, then that of `coded_difference`. Assumes nothing.
+-- `strips::pair::strip_pair_span` meets its contract: it is that of `pair_span`, then that of `coded_span`. Assumes nothing.
 use borrow.Author.Needs.{needs}
 use mathlib.Core.Path.{ap, ap₂, _∙_}
 use mir.Syntax.{w64}
@@ -17,16 +17,16 @@ new-requires-2 c κs = search needs
 pair-span-requires : tie.Need-pair-span-requires
 pair-span-requires c κs = search needs
 
-coded-difference-requires : tie.Need-coded-difference-requires
-coded-difference-requires c κs = search needs
+coded-span-requires : tie.Need-coded-span-requires
+coded-span-requires c κs = search needs
 
 returns : tie.Need-returns
 returns c =
     let a = c .before .before .before .before .before .before .args in
-    toZ-ofZ w64 (c .coded-difference .result) (record { sfits = c .coded-difference .ok })
-    ∙ c .coded-difference .ensures
+    toZ-ofZ w64 (c .coded-span .result) (record { sfits = c .coded-span .ok })
+    ∙ c .coded-span .ensures
     ∙ ap codedSpan (c .before .pair-span .ensures
-    ∙ ap₂ (λ (h g : Handle). pairSpanTold h (a .xs .now) g (a .ys .now) (a .a) (a .b)) (c .before .before .before .new .ensures) (c .before .before .new2 .ensures))
+    ∙ ap₂ (λ (h g : Handle). pairSpanTold h (a .words .now) g (a .words2 .now) (a .a) (a .b)) (c .before .before .before .new .ensures) (c .before .before .new2 .ensures))
 
 pub strip-pair-span-spec : {M : Type 1} → statement M
-strip-pair-span-spec = tie.close (tie.spec new-requires new-requires-2 pair-span-requires coded-difference-requires returns)
+strip-pair-span-spec = tie.close (tie.spec new-requires new-requires-2 pair-span-requires coded-span-requires returns)
