@@ -13,7 +13,16 @@ use words::Handle;
 use words::coded;
 
 // How many strokes before i a rule marks.
-fn rule_rank(rule: Rule, c: u64, n: u64, xs: &[u64], d: u64, m: u64, ys: &[u64], i: u64) -> u64
+fn rule_rank(
+    rule: Rule,
+    capacity: u64,
+    length: u64,
+    words: &[u64],
+    capacity2: u64,
+    length2: u64,
+    words2: &[u64],
+    i: u64,
+) -> u64
     ensures { λ r. ⌜ r ≡ codedOf (pairRankTold (ruleOf rule) (handle capacity length) (now (words .entry)) (handle capacity2 length2) (now (words2 .entry)) i) ⌝ }
 {
     coded(pair_rank(
