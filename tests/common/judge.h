@@ -1,6 +1,6 @@
-/* What calls may tell, by the scope document's definitions: the sizes, the readings of a strip's words, and on an image
- * the chain, whether each row is right, clear, freeze, inspect, opening, the labels and lengths of rows, and their
- * readings. Of the library's nothing is used but the refusals' numbers. */
+/* What calls may tell, by the scope document's definitions: the sizes, the readings of a strip's words and of two
+ * strips' words, and on an image the chain, whether each row is right, clear, freeze, inspect, opening, the labels and
+ * lengths of rows, and their readings. Of the library's nothing is used but the refusals' numbers. */
 #ifndef JUDGE_H
 #define JUDGE_H
 
@@ -319,6 +319,86 @@ static inline uint64_t word_select_answer(uint64_t x, uint64_t k)
         k--;
     }
     return 64;
+}
+
+/* ---- the calls on two strips' words */
+
+/* A strip as it is lent: its handle, its words as bytes, and how many words they are. */
+struct strip {
+    uint64_t capacity, length;
+    const uint8_t *bits;
+    uint64_t words_len;
+};
+
+/* 1 and 2 of the first strip, 1 and 2 of the second, 16, or 0. */
+static inline uint64_t pair_refused(struct strip first, struct strip second)
+{
+    uint64_t refused = handle_refused(first.capacity, first.length, first.words_len);
+    if (refused != 0)
+        return refused;
+    refused = handle_refused(second.capacity, second.length, second.words_len);
+    if (refused != 0)
+        return refused;
+    return first.capacity != second.capacity || first.length != second.length ? REFUSED(STRIP_UNEQUAL) : 0;
+}
+
+/* Which strokes of two strips are counted. */
+enum judged_so { BOTH_MARK, EITHER_MARKS, ONLY_FIRST_MARKS, JUDGED_DIFFERENTLY };
+
+static inline int stroke_so(enum judged_so so, struct strip first, struct strip second, uint64_t p)
+{
+    int x = bit(first.bits, p) == 1, y = bit(second.bits, p) == 1;
+    switch (so) {
+    case BOTH_MARK: return x && y;
+    case EITHER_MARKS: return x || y;
+    case ONLY_FIRST_MARKS: return x && !y;
+    default: return x != y;
+    }
+}
+
+/* How many strokes before i the two strips judge so: 1 and 2 of each, 16, 4. */
+static inline uint64_t pair_count_answer(enum judged_so so, struct strip first, struct strip second, uint64_t i)
+{
+    uint64_t refused = pair_refused(first, second), strokes = 0;
+    if (refused != 0)
+        return refused;
+    if (i > first.length)
+        return REFUSED(STRIP_POSITION);
+    for (uint64_t p = 0; p < i; p++)
+        strokes += stroke_so(so, first, second, p);
+    return strokes;
+}
+
+/* The k-th stroke judged differently, k from 0: 1 and 2 of each, 16, 6. */
+static inline uint64_t pair_find_answer(struct strip first, struct strip second, uint64_t k)
+{
+    uint64_t refused = pair_refused(first, second);
+    if (refused != 0)
+        return refused;
+    for (uint64_t p = 0; p < first.length; p++) {
+        if (!stroke_so(JUDGED_DIFFERENTLY, first, second, p))
+            continue;
+        if (k == 0)
+            return p;
+        k--;
+    }
+    return REFUSED(STRIP_NOT_FOUND);
+}
+
+/* The ones of the first in positions a to b - 1 less those of the second: 1 and 2 of each, 16, 5, 4. */
+static inline int64_t pair_span_answer(struct strip first, struct strip second, uint64_t a, uint64_t b)
+{
+    uint64_t refused = pair_refused(first, second);
+    int64_t difference = 0;
+    if (refused != 0)
+        return (int64_t)refused;
+    if (a > b)
+        return (int64_t)REFUSED(STRIP_SPAN);
+    if (b > first.length)
+        return (int64_t)REFUSED(STRIP_POSITION);
+    for (uint64_t p = a; p < b; p++)
+        difference += (int64_t)bit(first.bits, p) - (int64_t)bit(second.bits, p);
+    return difference;
 }
 
 #endif

@@ -6,9 +6,9 @@
  * written. Each round draws a record and an image and makes calls of every kind on them; round 0 is that of the
  * largest. A round draws from the seed and its number, which a failure tells; with ROUND it runs alone. Held here is
  * that a call touches nothing that was not lent, tells nothing that it may not tell, and changes nothing where it is
- * refused or only reads; the sizes, look, next, prior, freezing, opening, the labels and lengths of rows and their
- * readings are held to common/judge.h in full. At the end of all rounds every function has been accepted and has met
- * every refusal of its line. */
+ * refused or only reads; the sizes, look, next, prior, the six calls on two strips, freezing, opening, the labels and
+ * lengths of rows and their readings are held to common/judge.h in full. At the end of all rounds every function has
+ * been accepted and has met every refusal of its line. */
 #include "lend.h"
 
 #include "judge.h"
@@ -25,14 +25,16 @@ enum { MOST_IMAGE = 16 + 16 + 528 * 32768 + 64, SCRIPT = 24 };
 
 /* Those of libstrips.a, the display's six last, then those of libtesting.a. */
 enum call {
-    COUNTER_COUNT, CREATE, PUSH, FLIP, FILL, TRUNCATE, GET, RANK, SELECT, SUCCESSOR, PREDECESSOR, VERIFY, RECORD_SIZE,
-    CLEAR, FREEZE, INSPECT, ROW_RANK, ROW_SELECT, ROW_GET, ROW_LENGTH, ROW_LABEL, SELECT_IN_WORD, OPEN, PART_GET,
-    PART_RANK, PART_SELECT, OPENED_GET, OPENED_RANK, OPENED_SELECT, EXECUTE, STEP, CALLS
+    COUNTER_COUNT, CREATE, PUSH, FLIP, FILL, TRUNCATE, GET, RANK, SELECT, SUCCESSOR, PREDECESSOR, VERIFY, PAIR_BOTH,
+    PAIR_EITHER, PAIR_ONLY_FIRST, PAIR_DIFFER, PAIR_FIND, PAIR_SPAN, RECORD_SIZE, CLEAR, FREEZE, INSPECT, ROW_RANK,
+    ROW_SELECT, ROW_GET, ROW_LENGTH, ROW_LABEL, SELECT_IN_WORD, OPEN, PART_GET, PART_RANK, PART_SELECT, OPENED_GET,
+    OPENED_RANK, OPENED_SELECT, EXECUTE, STEP, CALLS
 };
 
 #define R(n) (1u << (n))
 #define HANDLE (R(STRIP_BAD_HANDLE) | R(STRIP_BAD_WORDS))
 #define RECORD (HANDLE | R(STRIP_BAD_COUNTERS))
+#define PAIR (HANDLE | R(STRIP_UNEQUAL))
 #define OPENING (R(STRIP_UNSOUND) | R(STRIP_BAD_LABEL) | R(STRIP_LABEL_ABSENT))
 #define COUNTING (R(STRIP_BAD_VALUE) | R(STRIP_POSITION) | R(STRIP_WRONG_ROW))
 #define FINDING (R(STRIP_BAD_VALUE) | R(STRIP_NOT_FOUND) | R(STRIP_WRONG_ROW))
@@ -54,6 +56,12 @@ static const struct {
     [SUCCESSOR] = {"strip_successor", HANDLE | R(STRIP_BAD_VALUE) | R(STRIP_POSITION) | R(STRIP_NOT_FOUND)},
     [PREDECESSOR] = {"strip_predecessor", HANDLE | R(STRIP_BAD_VALUE) | R(STRIP_POSITION) | R(STRIP_NOT_FOUND)},
     [VERIFY] = {"strip_verify", RECORD | R(STRIP_UNFIT)},
+    [PAIR_BOTH] = {"strip_pair_both", PAIR | R(STRIP_POSITION)},
+    [PAIR_EITHER] = {"strip_pair_either", PAIR | R(STRIP_POSITION)},
+    [PAIR_ONLY_FIRST] = {"strip_pair_only_first", PAIR | R(STRIP_POSITION)},
+    [PAIR_DIFFER] = {"strip_pair_differ", PAIR | R(STRIP_POSITION)},
+    [PAIR_FIND] = {"strip_pair_find", PAIR | R(STRIP_NOT_FOUND)},
+    [PAIR_SPAN] = {"strip_pair_span", PAIR | R(STRIP_SPAN) | R(STRIP_POSITION)},
     [RECORD_SIZE] = {"image_record_size", R(STRIP_POSITION)},
     [CLEAR] = {"image_clear", R(STRIP_NO_ROOM)},
     [FREEZE] = {"image_freeze",
@@ -97,7 +105,7 @@ static void expect(enum call call, int holds, const char *what)
 /* Notes a refusal's number, 0 where the call was accepted. */
 static void note(enum call call, uint64_t refusal)
 {
-    expect(call, refusal == 0 || (refusal < 16 && functions[call].refusals >> refusal & 1),
+    expect(call, refusal == 0 || (refusal <= STRIP_UNEQUAL && functions[call].refusals >> refusal & 1),
            "a refusal not of its line");
     calls[call]++;
     met[call] |= 1u << refusal;
@@ -107,6 +115,16 @@ static void note(enum call call, uint64_t refusal)
 static uint64_t told(enum call call, uint64_t answer)
 {
     note(call, !STRIP_REFUSED(answer) ? 0 : answer == REFUSED(0) ? 99 : answer - REFUSED(0));
+    return answer;
+}
+
+/* The same of an answer that may be negative. */
+static int64_t told_signed(enum call call, int64_t answer)
+{
+    if (answer < (int64_t)WIDE)
+        note(call, 0);
+    else
+        told(call, (uint64_t)answer);
     return answer;
 }
 
@@ -198,7 +216,7 @@ static size_t size_near(size_t n)
 /* ---- what is lent */
 
 static int at_end;
-static struct memory words_memory, counters_memory, image_memory, part_memory, out_memory, script_memory;
+static struct memory words_memory, second_memory, counters_memory, image_memory, part_memory, out_memory, script_memory;
 
 /* The address to lend: of no bytes it may be NULL. */
 static void *lent_at(struct lent l, int writable)
@@ -426,6 +444,84 @@ static struct record drawn_record(uint64_t capacity)
     return r;
 }
 
+/* ---- two strips */
+
+#define STRIPS (x)->capacity, (x)->length, WORDS(x), (y)->capacity, (y)->length, WORDS(y)
+
+static struct strip strip_of(const struct record *r)
+{
+    return (struct strip){r->capacity, r->length, r->words.write, r->words.length / 8};
+}
+
+static void hold_count(enum call call, const struct record *x, const struct record *y, uint64_t i, uint64_t wanted)
+{
+    uint64_t answer;
+    switch (call) {
+    case PAIR_BOTH: answer = strip_pair_both(STRIPS, i); break;
+    case PAIR_EITHER: answer = strip_pair_either(STRIPS, i); break;
+    case PAIR_ONLY_FIRST: answer = strip_pair_only_first(STRIPS, i); break;
+    default: answer = strip_pair_differ(STRIPS, i); break;
+    }
+    expect(call, told(call, answer) == wanted, "another number");
+}
+
+static void hold_find(const struct record *x, const struct record *y, uint64_t k, uint64_t wanted)
+{
+    expect(PAIR_FIND, told(PAIR_FIND, strip_pair_find(STRIPS, k)) == wanted, "another position");
+}
+
+static void hold_span(const struct record *x, const struct record *y, uint64_t a, uint64_t b, int64_t wanted)
+{
+    expect(PAIR_SPAN, told_signed(PAIR_SPAN, strip_pair_span(STRIPS, a, b)) == wanted, "another difference");
+}
+
+/* The second strip: mostly of the record's capacity and length, with as many words as it needs; its bits anything, or
+ * those of the record's words but for some bytes. At times the record's own words, lent for both strips. */
+static struct record drawn_second(const struct record *r)
+{
+    uint64_t capacity = one_in(16) ? 512 * (1 + below(9)) : r->capacity;
+    struct record s = {capacity, one_in(12) ? below(capacity + 1) : r->length, {0}, {0}};
+    s.words = lend(&second_memory, 8 * size_near(capacity / 64), at_end);
+    bytes_drawn(s.words.write, s.words.length, below(4));
+    if (one_in(3) && s.words.length == r->words.length) {
+        if (s.words.length > 0)
+            memcpy(s.words.write, r->words.write, s.words.length);
+        for (unsigned k = below(4); k > 0 && s.words.length > 0; k--)
+            s.words.write[below(s.words.length)] ^= 1 << below(8);
+    }
+    if (one_in(16)) {
+        give_back(s.words);
+        s.words = r->words;
+    }
+    return s;
+}
+
+/* The six calls, on the record and a second strip, in either order. */
+static void compare_strips(const struct record *r)
+{
+    static const enum call counts[] = {PAIR_BOTH, PAIR_EITHER, PAIR_ONLY_FIRST, PAIR_DIFFER};
+    struct record first = *r, second = drawn_second(r), *x = &first, *y = &second;
+    first.capacity = some_capacity(&first);
+    first.length = some_length(&first);
+    second.capacity = some_capacity(&second);
+    second.length = some_length(&second);
+    if (one_in(2)) {
+        x = &second;
+        y = &first;
+    }
+    struct strip strips[2] = {strip_of(x), strip_of(y)};
+    for (int c = 0; c < 4; c++) {
+        uint64_t i = position(r->length);
+        hold_count(counts[c], x, y, i, pair_count_answer((enum judged_so)c, strips[0], strips[1], i));
+    }
+    uint64_t k = position(one_in(2) ? r->length : r->length / 2);
+    uint64_t a = position(r->length), b = one_in(2) ? a + below(200) : position(r->length);
+    hold_find(x, y, k, pair_find_answer(strips[0], strips[1], k));
+    hold_span(x, y, a, b, pair_span_answer(strips[0], strips[1], a, b));
+    if (second.words.of != r->words.of)
+        give_back(second.words);
+}
+
 static void record_calls(struct record *r)
 {
     static const enum call words[] = {GET, SUCCESSOR, PREDECESSOR}, reads[] = {RANK, SELECT, VERIFY};
@@ -438,6 +534,8 @@ static void record_calls(struct record *r)
             read_record(r, reads[below(3)]);
         if (one_in(2))
             change(r, changes[below(one_in(4) ? 7 : 4)]);
+        if (k % 4 == 0)
+            compare_strips(r);
     }
     ask_sizes(r);
     select_in_word();
@@ -787,6 +885,26 @@ static void largest_record(void)
     give_back(r.counters);
 }
 
+/* Two strips of the greatest length: all ones, and none. */
+static void largest_strips(void)
+{
+    struct record ones = {LARGEST, LARGEST, lend(&words_memory, LARGEST / 8, at_end), {0}};
+    struct record none = {LARGEST, LARGEST, lend(&second_memory, LARGEST / 8, at_end), {0}};
+    memset(ones.words.write, 255, ones.words.length);
+    memset(none.words.write, 0, none.words.length);
+    hold_count(PAIR_BOTH, &ones, &none, LARGEST, 0);
+    hold_count(PAIR_EITHER, &ones, &none, LARGEST, LARGEST);
+    hold_count(PAIR_ONLY_FIRST, &ones, &none, LARGEST, LARGEST);
+    hold_count(PAIR_ONLY_FIRST, &none, &ones, LARGEST, 0);
+    hold_count(PAIR_DIFFER, &none, &ones, LARGEST - 1, LARGEST - 1);
+    hold_find(&ones, &none, LARGEST - 1, LARGEST - 1);
+    hold_find(&none, &ones, LARGEST, REFUSED(STRIP_NOT_FOUND));
+    hold_span(&ones, &none, 0, LARGEST, LARGEST);
+    hold_span(&none, &ones, 0, LARGEST, -LARGEST);
+    give_back(ones.words);
+    give_back(none.words);
+}
+
 /* An image of about 2^32 bytes with one row of `length` zeros at its end. Bytes that no call touches take no memory. */
 static void largest_image(size_t size, uint64_t length)
 {
@@ -837,10 +955,11 @@ static void one_round(void)
     give_back(r.counters);
 }
 
-/* Round 0: the largest record and the largest images. */
+/* Round 0: the largest record, strips and images. */
 static void largest_round(void)
 {
     largest_record();
+    largest_strips();
     for (int off = -1; off <= 1; off++)
         for (uint64_t length = 0; length <= 300; length += 300)
             largest_image(WIDE + off, length);
@@ -875,6 +994,7 @@ int main(int count, char **args)
     at_end = strcmp(side, "end") == 0;
     seed = strtoull(args[3], NULL, 10);
     words_memory = memory_of(LARGEST / 8);
+    second_memory = memory_of(LARGEST / 8);
     counters_memory = memory_of(4 * MOST_COUNTERS);
     image_memory = memory_of(MOST_IMAGE);
     part_memory = memory_of(MOST_IMAGE);

@@ -1,7 +1,8 @@
-//! Calls and queries drawn at random, their arguments around what they meet.
+//! Calls, queries and comparisons drawn at random, their arguments around what they meet.
 use crate::borders::{BAD_CAPACITIES, BAD_VALUES, FAR, LARGEST, UNITS, WIDE};
 use crate::call::{Call, Opcode, CALLS};
 use crate::model::number_of;
+use crate::pair::Comparison;
 use crate::paper::Frozen;
 use crate::query::Query;
 use crate::random::Random;
@@ -94,7 +95,7 @@ fn capacity(random: &mut Random, own: u64) -> u64 {
     }
 }
 
-/// A span for run: short, or between any two positions.
+/// A span: short, or between any two positions.
 fn span(random: &mut Random, scene: &Scene) -> (u64, u64) {
     let length = scene.strip.len() as u64;
     let a = position(random, scene.capacity, length);
@@ -167,6 +168,25 @@ pub fn query(random: &mut Random, query: Query, scene: &Scene) -> Query {
             2 => near(random, rows),
             _ => random.number_below(rows + 1),
         }),
+    }
+}
+
+/// A comparison of the same kind, of drawn arguments, on the bits of two strips of one length under a capacity.
+pub fn comparison(random: &mut Random, kind: Comparison, capacity: u64, strips: (&[bool], &[bool])) -> Comparison {
+    let i = position(random, capacity, strips.0.len() as u64);
+    match kind {
+        Comparison::Both(_) => Comparison::Both(i),
+        Comparison::Either(_) => Comparison::Either(i),
+        Comparison::OnlyFirst(_) => Comparison::OnlyFirst(i),
+        Comparison::Differ(_) => Comparison::Differ(i),
+        Comparison::Find(_) => {
+            let differing: Vec<bool> = strips.0.iter().zip(strips.1).map(|(x, y)| x != y).collect();
+            Comparison::Find(index(random, &differing, 1))
+        }
+        Comparison::Span(..) => {
+            let (a, b) = span(random, &Scene { capacity, strip: strips.0, rows: &[] });
+            Comparison::Span(a, b)
+        }
     }
 }
 

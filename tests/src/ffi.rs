@@ -97,6 +97,73 @@ extern "C" {
         counters: *const u32,
         counters_len: usize,
     ) -> u64;
+    pub fn strip_pair_both(
+        first_capacity: u64,
+        first_length: u64,
+        first: *const u64,
+        first_len: usize,
+        second_capacity: u64,
+        second_length: u64,
+        second: *const u64,
+        second_len: usize,
+        i: u64,
+    ) -> u64;
+    pub fn strip_pair_either(
+        first_capacity: u64,
+        first_length: u64,
+        first: *const u64,
+        first_len: usize,
+        second_capacity: u64,
+        second_length: u64,
+        second: *const u64,
+        second_len: usize,
+        i: u64,
+    ) -> u64;
+    pub fn strip_pair_only_first(
+        first_capacity: u64,
+        first_length: u64,
+        first: *const u64,
+        first_len: usize,
+        second_capacity: u64,
+        second_length: u64,
+        second: *const u64,
+        second_len: usize,
+        i: u64,
+    ) -> u64;
+    pub fn strip_pair_differ(
+        first_capacity: u64,
+        first_length: u64,
+        first: *const u64,
+        first_len: usize,
+        second_capacity: u64,
+        second_length: u64,
+        second: *const u64,
+        second_len: usize,
+        i: u64,
+    ) -> u64;
+    pub fn strip_pair_find(
+        first_capacity: u64,
+        first_length: u64,
+        first: *const u64,
+        first_len: usize,
+        second_capacity: u64,
+        second_length: u64,
+        second: *const u64,
+        second_len: usize,
+        k: u64,
+    ) -> u64;
+    pub fn strip_pair_span(
+        first_capacity: u64,
+        first_length: u64,
+        first: *const u64,
+        first_len: usize,
+        second_capacity: u64,
+        second_length: u64,
+        second: *const u64,
+        second_len: usize,
+        a: u64,
+        b: u64,
+    ) -> i64;
     pub fn image_record_size(length: u64) -> u64;
     pub fn image_clear(image: *mut u8, image_len: usize) -> u64;
     pub fn image_freeze(

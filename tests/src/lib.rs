@@ -1,6 +1,6 @@
-//! The proved calls, to be compared with a plain model of them. The calls: those on words here, those on a record in
-//! `record`, those on an image in `image`, the queries in `query`, and scripts of all calls in `script`. The model: strips and
-//! rows in `model`, the image's bytes in `layout`, the paper machine in `paper`.
+//! The proved calls, to be compared with a plain model of them. The calls: those on words here, those on two strips' words in
+//! `pair`, those on a record in `record`, those on an image in `image`, the queries in `query`, and scripts of calls in
+//! `script`. The model: strips and rows in `model`, the image's bytes in `layout`, the paper machine in `paper`.
 pub mod borders;
 pub mod call;
 pub mod cases;
@@ -10,6 +10,7 @@ mod guarded;
 pub mod image;
 pub mod layout;
 pub mod model;
+pub mod pair;
 pub mod paper;
 pub mod query;
 pub mod random;

@@ -1,9 +1,9 @@
-//! The calls on a strip and on a row, by the scope document's definitions: a strip is a list of bits, every search is a loop
-//! over positions, and every counter is summed anew from the children that it gives. Refusals are judged in the order of the
-//! lines.
+//! The calls on a strip, on two strips and on a row, by the documents' definitions: a strip is a list of bits, every search is
+//! a loop over positions, and every counter is summed anew from the children that it gives. Refusals are judged in the order
+//! of the lines.
 use crate::borders::LARGEST;
 use crate::call::{Call, Opcode};
-use crate::refusal::{Answer, Refusal, Values};
+use crate::refusal::{Answer, Refusal, Signed, Values};
 use crate::Handle;
 use std::ops::Range;
 use Refusal::*;
@@ -129,6 +129,55 @@ pub fn on_row(bits: &[bool], call: Call) -> Values {
         _ => unreachable!("{call:?} is not on a row"),
     };
     told.map(|value| (value, 0))
+}
+
+// ---- two strips, each a list of bits, of one length
+
+/// 1 and 2 of the first strip, 1 and 2 of the second, 16. Of each strip the handle and the number of words are given.
+pub fn check_pair(first: (Handle, usize), second: (Handle, usize)) -> Result<(), Refusal> {
+    check(first.0, first.1, None)?;
+    check(second.0, second.1, None)?;
+    Unequal.when(first.0.capacity != second.0.capacity || first.0.length != second.0.length)
+}
+
+/// 4; how many strokes before i the strips judge so.
+fn strokes_before(i: u64, first: &[bool], second: &[bool], judged: impl Fn(bool, bool) -> bool) -> Answer {
+    Position.when(i > length(first))?;
+    let strokes = first[..i as usize].iter().zip(&second[..i as usize]);
+    Ok(strokes.filter(|(x, y)| judged(**x, **y)).count() as u64)
+}
+
+/// The strokes before i that both mark: 4.
+pub fn both(first: &[bool], second: &[bool], i: u64) -> Answer {
+    strokes_before(i, first, second, |x, y| x && y)
+}
+
+/// The strokes before i that either marks: 4.
+pub fn either(first: &[bool], second: &[bool], i: u64) -> Answer {
+    strokes_before(i, first, second, |x, y| x || y)
+}
+
+/// The strokes before i that only the first marks: 4.
+pub fn only_first(first: &[bool], second: &[bool], i: u64) -> Answer {
+    strokes_before(i, first, second, |x, y| x && !y)
+}
+
+/// The strokes before i that they judge differently: 4.
+pub fn differ(first: &[bool], second: &[bool], i: u64) -> Answer {
+    strokes_before(i, first, second, |x, y| x != y)
+}
+
+/// The k-th stroke judged differently, k from 0: 6.
+pub fn find_differing(first: &[bool], second: &[bool], k: u64) -> Answer {
+    found((0..first.len()).filter(|p| first[*p] != second[*p]).nth(k as usize))
+}
+
+/// The ones of the first in positions a to b - 1 less those of the second: 5, 4.
+pub fn span_difference(first: &[bool], second: &[bool], a: u64, b: u64) -> Signed {
+    Span.when(a > b)?;
+    Position.when(b > length(first))?;
+    let ones = |bits: &[bool]| number_of(&bits[a as usize..b as usize], true) as i64;
+    Ok(ones(first) - ones(second))
 }
 
 // ---- the counters

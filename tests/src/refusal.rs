@@ -34,10 +34,12 @@ pub enum Refusal {
     LabelAbsent = 14,
     /// a row whose ones, entries or padding are wrong
     WrongRow = 15,
+    /// two strips of unequal capacity or length
+    Unequal = 16,
 }
 
 /// All refusals, in the order of their numbers.
-pub const REFUSALS: [Refusal; 15] = [
+pub const REFUSALS: [Refusal; 16] = [
     BadHandle,
     WordCount,
     CounterCount,
@@ -53,10 +55,14 @@ pub const REFUSALS: [Refusal; 15] = [
     NoRoom,
     LabelAbsent,
     WrongRow,
+    Unequal,
 ];
 
 /// The answer of a call that tells one value.
 pub type Answer = Result<u64, Refusal>;
+
+/// The answer of a call that tells one value, which may be negative.
+pub type Signed = Result<i64, Refusal>;
 
 /// The answer of any call: two values, 0 where there is none.
 pub type Values = Result<(u64, u64), Refusal>;
@@ -87,6 +93,15 @@ pub fn answer(told: u64) -> Answer {
         Ok(told)
     } else {
         Err(Refusal::of(told - (1 << 32)))
+    }
+}
+
+/// An answer told as one signed number: the value, or 2^32 plus the refusal's number.
+pub fn signed(told: i64) -> Signed {
+    if told < 1 << 32 {
+        Ok(told)
+    } else {
+        Err(Refusal::of(told as u64 - (1 << 32)))
     }
 }
 

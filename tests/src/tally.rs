@@ -1,7 +1,8 @@
-//! What calls and queries told, counted.
+//! What calls, queries and comparisons told, counted.
 use crate::call::{Call, Opcode, CALLS};
+use crate::pair::{Comparison, COMPARISONS};
 use crate::query::{Query, QUERIES};
-use crate::refusal::{Answer, Refusal, Values, REFUSALS};
+use crate::refusal::{Answer, Refusal, Signed, Values, REFUSALS};
 use std::io::Write;
 
 /// How often one of them was accepted, at 0, and met each refusal, at its number.
@@ -33,6 +34,7 @@ impl Told {
 pub struct Tally {
     calls: [Told; CALLS],
     queries: [Told; QUERIES.len()],
+    comparisons: [Told; COMPARISONS.len()],
 }
 
 impl Tally {
@@ -42,6 +44,10 @@ impl Tally {
 
     pub fn note_query(&mut self, query: Query, told: Answer) {
         self.queries[query.index()].note(told.err());
+    }
+
+    pub fn note_comparison(&mut self, comparison: Comparison, told: Signed) {
+        self.comparisons[comparison.index()].note(told.err());
     }
 
     /// Whether a call was ever made.
@@ -59,11 +65,17 @@ impl Tally {
         QUERIES.into_iter().for_each(|q| self.queries[q.index()].expect(q.name(), q.refusals(), what));
     }
 
-    /// Prints how many calls were made and queries asked, and how often each refusal was met.
+    /// Asserts that each comparison was accepted, and met every refusal that it can and no other.
+    pub fn expect_comparisons(&self, what: &str) {
+        COMPARISONS.into_iter().for_each(|c| self.comparisons[c.index()].expect(c.name(), c.refusals(), what));
+    }
+
+    /// Prints how many calls were made, queries asked and strips compared, and how often each refusal was met.
     pub fn print(&self, what: &str) {
         let adds = self.calls[Opcode::Push as usize].sum();
         print(what, &format!("calls, {adds} of them adds"), &self.calls);
         print(what, "queries", &self.queries);
+        print(what, "comparisons", &self.comparisons);
     }
 }
 
