@@ -3,12 +3,12 @@
  *     guarded end|start ROUNDS SEED [ROUND]
  *
  * All buffers end, or all start, at a closed page. What a call may only read is lent through a view that cannot be
- * written. Each round draws a record and an image and makes calls of every kind on them; round 0 is that of the
- * largest. A round draws from the seed and its number, which a failure tells; with ROUND it runs alone. Held here is
- * that a call touches nothing that was not lent, tells nothing that it may not tell, and changes nothing where it is
- * refused or only reads; the sizes, look, next, prior, the six calls on two strips, freezing, opening, the labels and
- * lengths of rows and their readings are held to common/judge.h in full. At the end of all rounds every function has
- * been accepted and has met every refusal of its line. */
+ * written. Each round draws a record, an image and two strips, and makes calls of every kind on them; round 0 is that
+ * of the largest. A round draws from the seed and its number, which a failure tells; with ROUND it runs alone. Held
+ * here is that a call touches nothing that was not lent, tells nothing that it may not tell, and changes nothing where
+ * it is refused or only reads; the sizes, look, next, prior, the six calls on two strips, freezing, opening, the labels
+ * and lengths of rows and their readings are held to common/judge.h in full. At the end of all rounds every function
+ * has been accepted and has met every refusal of its line. */
 #include "lend.h"
 
 #include "judge.h"
@@ -444,9 +444,34 @@ static struct record drawn_record(uint64_t capacity)
     return r;
 }
 
+static void record_calls(struct record *r)
+{
+    static const enum call words[] = {GET, SUCCESSOR, PREDECESSOR}, reads[] = {RANK, SELECT, VERIFY};
+    static const enum call changes[] = {PUSH, FLIP, PUSH, FLIP, FILL, TRUNCATE, CREATE};
+    unsigned many = r->capacity > 100000 ? 2 : 20;
+    for (unsigned k = 0; k < many; k++) {
+        if (one_in(2))
+            read_words(r, words[below(3)]);
+        else
+            read_record(r, reads[below(3)]);
+        if (one_in(2))
+            change(r, changes[below(one_in(4) ? 7 : 4)]);
+    }
+    ask_sizes(r);
+    select_in_word();
+}
+
 /* ---- two strips */
 
 #define STRIPS (x)->capacity, (x)->length, WORDS(x), (y)->capacity, (y)->length, WORDS(y)
+
+/* A strip in a memory of its own: with as many words as it needs, mostly; its bits any, past the length too. */
+static struct record drawn_strip(struct memory *m, uint64_t capacity, uint64_t length)
+{
+    struct record r = {capacity, length, lend(m, 8 * size_near(capacity / 64), at_end), {0}};
+    bytes_drawn(r.words.write, r.words.length, below(4));
+    return r;
+}
 
 static struct strip strip_of(const struct record *r)
 {
@@ -475,70 +500,57 @@ static void hold_span(const struct record *x, const struct record *y, uint64_t a
     expect(PAIR_SPAN, told_signed(PAIR_SPAN, strip_pair_span(STRIPS, a, b)) == wanted, "another difference");
 }
 
-/* The second strip: mostly of the record's capacity and length, with as many words as it needs; its bits anything, or
- * those of the record's words but for some bytes. At times the record's own words, lent for both strips. */
-static struct record drawn_second(const struct record *r)
+/* The second strip: mostly of the first's capacity and length, with as many words as it needs; its bits any, or the
+ * first's but for some. At times the first's own words, lent for both. */
+static struct record drawn_second(const struct record *first)
 {
-    uint64_t capacity = one_in(16) ? 512 * (1 + below(9)) : r->capacity;
-    struct record s = {capacity, one_in(12) ? below(capacity + 1) : r->length, {0}, {0}};
-    s.words = lend(&second_memory, 8 * size_near(capacity / 64), at_end);
-    bytes_drawn(s.words.write, s.words.length, below(4));
-    if (one_in(3) && s.words.length == r->words.length) {
-        if (s.words.length > 0)
-            memcpy(s.words.write, r->words.write, s.words.length);
-        for (unsigned k = below(4); k > 0 && s.words.length > 0; k--)
-            s.words.write[below(s.words.length)] ^= 1 << below(8);
+    uint64_t capacity = one_in(16) ? 512 * (1 + below(9)) : first->capacity;
+    uint64_t length = one_in(12) || first->length > capacity ? below(capacity + 1) : first->length;
+    struct record second = drawn_strip(&second_memory, capacity, length);
+    size_t size = second.words.length;
+    if (one_in(3) && size == first->words.length && size > 0) {
+        memcpy(second.words.write, first->words.write, size);
+        for (unsigned k = below(4); k > 0; k--)
+            second.words.write[below(size)] ^= 1 << below(8);
+    } else if (one_in(12)) {
+        give_back(second.words);
+        second.words = first->words;
     }
-    if (one_in(16)) {
-        give_back(s.words);
-        s.words = r->words;
-    }
-    return s;
+    return second;
 }
 
-/* The six calls, on the record and a second strip, in either order. */
-static void compare_strips(const struct record *r)
+/* The six calls, with drawn arguments and handles. */
+static void compare_strips(struct record x, struct record y)
 {
     static const enum call counts[] = {PAIR_BOTH, PAIR_EITHER, PAIR_ONLY_FIRST, PAIR_DIFFER};
-    struct record first = *r, second = drawn_second(r), *x = &first, *y = &second;
-    first.capacity = some_capacity(&first);
-    first.length = some_length(&first);
-    second.capacity = some_capacity(&second);
-    second.length = some_length(&second);
-    if (one_in(2)) {
-        x = &second;
-        y = &first;
-    }
-    struct strip strips[2] = {strip_of(x), strip_of(y)};
+    uint64_t n = x.length, k = position(one_in(2) ? n : n / 2);
+    uint64_t a = position(n), b = one_in(2) ? a + below(200) : position(n);
+    x.capacity = some_capacity(&x);
+    x.length = some_length(&x);
+    y.capacity = some_capacity(&y);
+    y.length = some_length(&y);
+    struct strip first = strip_of(&x), second = strip_of(&y);
     for (int c = 0; c < 4; c++) {
-        uint64_t i = position(r->length);
-        hold_count(counts[c], x, y, i, pair_count_answer((enum judged_so)c, strips[0], strips[1], i));
+        uint64_t i = position(n);
+        hold_count(counts[c], &x, &y, i, pair_count_answer((enum judged_so)c, first, second, i));
     }
-    uint64_t k = position(one_in(2) ? r->length : r->length / 2);
-    uint64_t a = position(r->length), b = one_in(2) ? a + below(200) : position(r->length);
-    hold_find(x, y, k, pair_find_answer(strips[0], strips[1], k));
-    hold_span(x, y, a, b, pair_span_answer(strips[0], strips[1], a, b));
-    if (second.words.of != r->words.of)
-        give_back(second.words);
+    hold_find(&x, &y, k, pair_find_answer(first, second, k));
+    hold_span(&x, &y, a, b, pair_span_answer(first, second, a, b));
 }
 
-static void record_calls(struct record *r)
+/* Two strips of their own, in either order. */
+static void two_strips(void)
 {
-    static const enum call words[] = {GET, SUCCESSOR, PREDECESSOR}, reads[] = {RANK, SELECT, VERIFY};
-    static const enum call changes[] = {PUSH, FLIP, PUSH, FLIP, FILL, TRUNCATE, CREATE};
-    unsigned many = r->capacity > 100000 ? 2 : 20;
-    for (unsigned k = 0; k < many; k++) {
-        if (one_in(2))
-            read_words(r, words[below(3)]);
-        else
-            read_record(r, reads[below(3)]);
-        if (one_in(2))
-            change(r, changes[below(one_in(4) ? 7 : 4)]);
-        if (k % 4 == 0)
-            compare_strips(r);
+    uint64_t capacity = drawn_capacity();
+    struct record first = drawn_strip(&words_memory, capacity, one_in(4) ? capacity : below(capacity + 1));
+    struct record second = drawn_second(&first);
+    for (unsigned k = capacity > 100000 ? 1 : 3; k > 0; k--) {
+        compare_strips(first, second);
+        compare_strips(second, first);
     }
-    ask_sizes(r);
-    select_in_word();
+    if (second.words.of != first.words.of)
+        give_back(second.words);
+    give_back(first.words);
 }
 
 /* ---- an image */
@@ -953,6 +965,7 @@ static void one_round(void)
     give_back(image);
     give_back(r.words);
     give_back(r.counters);
+    two_strips();
 }
 
 /* Round 0: the largest record, strips and images. */
