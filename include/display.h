@@ -62,14 +62,16 @@ enum strip_refusal {
     STRIP_NO_ROOM = 13,       /* image_clear: an image under 16 or over 2^32 bytes; image_freeze: the record would not
                                  end inside the image */
     STRIP_LABEL_ABSENT = 14,  /* no row has the label; image_row_label: k not below the number of rows */
-    STRIP_WRONG_ROW = 15      /* a row's ones, entries or padding are not those of its bits */
+    STRIP_WRONG_ROW = 15,     /* a row's ones, entries or padding are not those of its bits */
+    STRIP_UNEQUAL = 16        /* two strips of unequal capacity or unequal length */
 };
 
-/* Whether an answer is a refusal. Evaluates its argument once. */
-#define STRIP_REFUSED(answer) ((uint64_t)(answer) >= UINT64_C(4294967296))
+/* Whether an answer is a refusal. It is given as the type that the call returns: a uint64_t, or the int64_t of
+ * strip_pair_span (strips.h), of which a negative value is no refusal. Evaluates its argument once. */
+#define STRIP_REFUSED(answer) ((answer) >= INT64_C(4294967296))
 
-/* The refusal, as an enum strip_refusal. Of an accepted answer it means nothing: a value of 6 would look like
- * STRIP_NOT_FOUND. Evaluates its argument once. */
+/* The refusal, as an enum strip_refusal, of either type. Of an accepted answer it means nothing: a value of 6 would
+ * look like STRIP_NOT_FOUND. Evaluates its argument once. */
 #define STRIP_REFUSAL(answer) ((enum strip_refusal)(uint32_t)(answer))
 
 /* inspect.

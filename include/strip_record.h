@@ -34,6 +34,13 @@ struct strip_answer {
     uint64_t refusal, value, second;
 };
 
+/* The same of strip_record_pair_span, whose value may be negative. Accepted: 0, and the value. Refused: the number of
+ * the refusal, and 0. */
+struct strip_difference {
+    uint64_t refusal;
+    int64_t value;
+};
+
 /* A record over these buffers, of which nothing is read yet. Up to an accepted strip_record_create every other call
  * on it is refused by STRIP_BAD_HANDLE. */
 static inline struct strip_record strip_record_over(uint64_t *words, size_t words_len, uint32_t *counters,
@@ -158,7 +165,58 @@ static inline struct strip_answer strip_record_freeze(const struct strip_record 
     return strip_answer_of(image_freeze(STRIP_RECORD_WORDS, image, image_len, label));
 }
 
+/* ---- Two strips compared. Of both records the handle and the words are read, and no counters; so a record that is
+ * only compared may be one of strip_record_resume with NULL, 0 for counters. */
+
+/* The arguments that these calls start with; undefined again below. */
+#define STRIP_RECORD_PAIR                                                         \
+    first->handle.capacity, first->handle.length, first->words, first->words_len, \
+        second->handle.capacity, second->handle.length, second->words, second->words_len
+
+static inline struct strip_answer strip_record_pair_both(const struct strip_record *first,
+                                                         const struct strip_record *second, uint64_t i)
+{
+    return strip_answer_of(strip_pair_both(STRIP_RECORD_PAIR, i));
+}
+
+static inline struct strip_answer strip_record_pair_either(const struct strip_record *first,
+                                                           const struct strip_record *second, uint64_t i)
+{
+    return strip_answer_of(strip_pair_either(STRIP_RECORD_PAIR, i));
+}
+
+static inline struct strip_answer strip_record_pair_only_first(const struct strip_record *first,
+                                                               const struct strip_record *second, uint64_t i)
+{
+    return strip_answer_of(strip_pair_only_first(STRIP_RECORD_PAIR, i));
+}
+
+static inline struct strip_answer strip_record_pair_differ(const struct strip_record *first,
+                                                           const struct strip_record *second, uint64_t i)
+{
+    return strip_answer_of(strip_pair_differ(STRIP_RECORD_PAIR, i));
+}
+
+static inline struct strip_answer strip_record_pair_find(const struct strip_record *first,
+                                                         const struct strip_record *second, uint64_t k)
+{
+    return strip_answer_of(strip_pair_find(STRIP_RECORD_PAIR, k));
+}
+
+static inline struct strip_difference strip_record_pair_span(const struct strip_record *first,
+                                                             const struct strip_record *second, uint64_t a, uint64_t b)
+{
+    struct strip_difference d = {0, 0};
+    int64_t answer = strip_pair_span(STRIP_RECORD_PAIR, a, b);
+    if (STRIP_REFUSED(answer))
+        d.refusal = STRIP_REFUSAL(answer);
+    else
+        d.value = answer;
+    return d;
+}
+
 #undef STRIP_RECORD_WORDS
 #undef STRIP_RECORD_WHOLE
+#undef STRIP_RECORD_PAIR
 
 #endif

@@ -34,8 +34,9 @@
  * inputs at its edges get: a value, or "refused" with the number.
  *
  * TIME. strip_create, strip_fill, strip_truncate and strip_verify go over all words and counters, strip_successor and
- * strip_predecessor from word to word up to the first hit, image_freeze over the words up to the length. The other
- * calls on a strip take constant time.
+ * strip_predecessor from word to word up to the first hit, image_freeze over the words up to the length. The calls on
+ * two strips go over the words of both, each word once: those before i, those up to the stroke found, those of the
+ * span. The other calls on a strip take constant time.
  */
 #ifndef STRIPS_H
 #define STRIPS_H
@@ -216,6 +217,73 @@ uint64_t strip_predecessor(uint64_t capacity, uint64_t length, const uint64_t *w
  *   an empty strip whose words and counters are all 0     0 */
 uint64_t strip_verify(uint64_t capacity, uint64_t length, const uint64_t *words, size_t words_len,
                       const uint32_t *counters, size_t counters_len);
+
+/* ---- Readings of two strips that hold the same strokes, as two judges saw them: the first as the crank judged them,
+ * say, the second as the pressure trace did. A strip MARKS a stroke where its bit is 1. Of each strip the calls take
+ * the handle and the words, and no counters: first_capacity, first_length, first and first_len, and for the second
+ * likewise. They write nothing, ignore the bits at and past the length in both, and answer alike whether records fit
+ * or not. All six have these refusals first, in this order:
+ *   1, 2   of the first strip, judged on its own handle and its own words
+ *   1, 2   of the second strip, on its own
+ *   16     first_capacity is not second_capacity, or first_length is not second_length
+ * So a first strip that gets 2, beside a second that gets 1, is refused 2; and two strips of unequal length are
+ * refused 16 wherever i, k, a and b are. Below, "length" is that of both. */
+
+/* pair both(i).
+ * Value: how many of the first i strokes both strips mark, 0 to i. The stroke at position i is not counted.
+ * Refusals: 1, 2, 1, 2, 16, 4.
+ *   i = 0            0, also in empty strips
+ *   i = length       all such strokes
+ *   i above that     refused 4 */
+uint64_t strip_pair_both(uint64_t first_capacity, uint64_t first_length, const uint64_t *first, size_t first_len,
+                         uint64_t second_capacity, uint64_t second_length, const uint64_t *second, size_t second_len,
+                         uint64_t i);
+
+/* pair either(i).
+ * Value: how many of the first i strokes either strip marks, the first, the second or both of them; 0 to i.
+ * Refusals and edges: as strip_pair_both. */
+uint64_t strip_pair_either(uint64_t first_capacity, uint64_t first_length, const uint64_t *first, size_t first_len,
+                           uint64_t second_capacity, uint64_t second_length, const uint64_t *second, size_t second_len,
+                           uint64_t i);
+
+/* pair only first(i).
+ * Value: how many of the first i strokes only the first strip marks, and the second does not; 0 to i. With the strips
+ * exchanged, those that only the second marks.
+ * Refusals and edges: as strip_pair_both. */
+uint64_t strip_pair_only_first(uint64_t first_capacity, uint64_t first_length, const uint64_t *first,
+                               size_t first_len, uint64_t second_capacity, uint64_t second_length,
+                               const uint64_t *second, size_t second_len, uint64_t i);
+
+/* pair differ(i).
+ * Value: how many of the first i strokes the strips judge differently, one marking it and the other not; 0 to i.
+ * Refusals and edges: as strip_pair_both. */
+uint64_t strip_pair_differ(uint64_t first_capacity, uint64_t first_length, const uint64_t *first, size_t first_len,
+                           uint64_t second_capacity, uint64_t second_length, const uint64_t *second, size_t second_len,
+                           uint64_t i);
+
+/* pair find(k).
+ * Value: the position of the k-th stroke that the strips judge differently; k starts at 0, so that k = 0 asks for the
+ * first of them, and strip_pair_differ of the position answered is k.
+ * Refusals: 1, 2, 1, 2, 16, 6.
+ *   k below the number of such strokes     a position, below the length
+ *   k at or past it                        refused 6; in strips whose bits are equal, or empty, for every k */
+uint64_t strip_pair_find(uint64_t first_capacity, uint64_t first_length, const uint64_t *first, size_t first_len,
+                         uint64_t second_capacity, uint64_t second_length, const uint64_t *second, size_t second_len,
+                         uint64_t k);
+
+/* pair span(a, b).
+ * Value: the ones of the first strip at the positions a to b - 1 less those of the second, from -(b - a) to b - a;
+ * so never below -134,217,728, nor above 134,217,728. A refusal comes as 2^32 plus its number here too, which no value
+ * reaches: STRIP_REFUSED and STRIP_REFUSAL take the answer as it is. Keep it in an int64_t: as a uint64_t, a negative
+ * value looks like a refusal.
+ * Refusals: 1, 2, 1, 2, 16, 5, 4.
+ *   a above b        refused 5, wherever b is
+ *   b = length       accepted
+ *   b above that     refused 4, with a = b too
+ *   a = b            0, for every a up to the length; so in empty strips for a = b = 0 alone */
+int64_t strip_pair_span(uint64_t first_capacity, uint64_t first_length, const uint64_t *first, size_t first_len,
+                        uint64_t second_capacity, uint64_t second_length, const uint64_t *second, size_t second_len,
+                        uint64_t a, uint64_t b);
 
 /* ---- Writing an image. */
 

@@ -10,8 +10,11 @@
 /* Strip A, 17 bits. */
 static const char a[] = "01101101010101110";
 
-static uint64_t words[STRIP_WORDS(CAPACITY)];
-static uint32_t counters[STRIP_COUNTERS(CAPACITY)];
+/* What another judge says of the same strokes: they differ at 2, 10 and 15. */
+static const char other[] = "01001101011101100";
+
+static uint64_t words[STRIP_WORDS(CAPACITY)], other_words[STRIP_WORDS(CAPACITY)];
+static uint32_t counters[STRIP_COUNTERS(CAPACITY)], other_counters[STRIP_COUNTERS(CAPACITY)];
 static uint8_t image[IMAGE_HEADER_BYTES + IMAGE_RECORD_BYTES(17)];
 static struct strip_record record;
 
@@ -22,6 +25,14 @@ static void expect(const char *call, struct strip_answer told, uint64_t refusal,
     if (told.refusal == refusal && told.value == value && told.second == second)
         return;
     printf("%s: %" PRIu64 ", %" PRIu64 ", %" PRIu64 "\n", call, told.refusal, told.value, told.second);
+    failed = 1;
+}
+
+static void expect_span(const char *call, struct strip_difference told, uint64_t refusal, int64_t value)
+{
+    if (told.refusal == refusal && told.value == value)
+        return;
+    printf("%s: %" PRIu64 ", %" PRId64 "\n", call, told.refusal, told.value);
     failed = 1;
 }
 
@@ -38,6 +49,10 @@ static void expect_handle(const char *call, uint64_t capacity, uint64_t length)
 #define VALUE(call, value) expect(#call, call, 0, value, 0)
 #define REFUSAL(call, refusal) expect(#call, call, refusal, 0, 0)
 
+/* A span of two strips: its value, or its refusal. */
+#define SPAN_VALUE(call, value) expect_span(#call, call, 0, value)
+#define SPAN_REFUSAL(call, refusal) expect_span(#call, call, refusal, 0)
+
 /* A change: its values, with the length afterwards; or its refusal, and the handle as it was. */
 #define CHANGED(call, value, second, length) \
     (expect(#call, call, 0, value, second), expect_handle(#call, CAPACITY, length))
@@ -47,6 +62,52 @@ static void expect_handle(const char *call, uint64_t capacity, uint64_t length)
         expect(#call, call, refusal, 0, 0);                                                            \
         expect_handle(#call, capacity, length);                                                        \
     } while (0)
+
+/* The record, which holds strip A, beside the other judge's; and beside records that may not be compared with it. */
+static void compare(void)
+{
+    struct strip_record o =
+        strip_record_over(other_words, STRIP_WORDS(CAPACITY), other_counters, STRIP_COUNTERS(CAPACITY));
+    REFUSAL(strip_record_pair_both(&record, &o, 0), STRIP_BAD_HANDLE);
+    REFUSAL(strip_record_pair_both(&o, &record, 0), STRIP_BAD_HANDLE);
+    strip_record_create(&o, CAPACITY);
+    for (uint64_t p = 0; p + 1 < strlen(other); p++)
+        strip_record_push(&o, other[p] == '1');
+    REFUSAL(strip_record_pair_both(&record, &o, 0), STRIP_UNEQUAL);
+    REFUSAL(strip_record_pair_either(&record, &o, 18), STRIP_UNEQUAL);
+    REFUSAL(strip_record_pair_only_first(&record, &o, 0), STRIP_UNEQUAL);
+    REFUSAL(strip_record_pair_differ(&record, &o, 0), STRIP_UNEQUAL);
+    REFUSAL(strip_record_pair_find(&record, &o, 9), STRIP_UNEQUAL);
+    SPAN_REFUSAL(strip_record_pair_span(&record, &o, 1, 0), STRIP_UNEQUAL);
+    strip_record_push(&o, other[strlen(other) - 1] == '1');
+
+    VALUE(strip_record_pair_both(&record, &o, 17), 8);
+    VALUE(strip_record_pair_either(&record, &o, 17), 11);
+    VALUE(strip_record_pair_only_first(&record, &o, 17), 2);
+    VALUE(strip_record_pair_only_first(&o, &record, 17), 1);
+    VALUE(strip_record_pair_differ(&record, &o, 17), 3);
+    VALUE(strip_record_pair_differ(&record, &o, 10), 1);
+    REFUSAL(strip_record_pair_both(&record, &o, 18), STRIP_POSITION);
+    REFUSAL(strip_record_pair_either(&record, &o, 18), STRIP_POSITION);
+    REFUSAL(strip_record_pair_only_first(&record, &o, 18), STRIP_POSITION);
+    REFUSAL(strip_record_pair_differ(&record, &o, 18), STRIP_POSITION);
+    VALUE(strip_record_pair_find(&record, &o, 1), 10);
+    REFUSAL(strip_record_pair_find(&record, &o, 3), STRIP_NOT_FOUND);
+    SPAN_VALUE(strip_record_pair_span(&record, &o, 0, 17), 1);
+    SPAN_VALUE(strip_record_pair_span(&record, &o, 8, 12), -1);
+    SPAN_VALUE(strip_record_pair_span(&o, &record, 8, 12), 1);
+    SPAN_VALUE(strip_record_pair_span(&record, &o, 17, 17), 0);
+    SPAN_REFUSAL(strip_record_pair_span(&record, &o, 18, 17), STRIP_SPAN);
+    SPAN_REFUSAL(strip_record_pair_span(&record, &o, 17, 18), STRIP_POSITION);
+
+    /* each record by its own words; no counters are needed */
+    o = strip_record_resume(o.handle, other_words, STRIP_WORDS(CAPACITY) - 1, NULL, 0);
+    REFUSAL(strip_record_pair_both(&record, &o, 17), STRIP_BAD_WORDS);
+    SPAN_REFUSAL(strip_record_pair_span(&o, &record, 0, 17), STRIP_BAD_WORDS);
+    o = strip_record_resume(o.handle, other_words, STRIP_WORDS(CAPACITY), NULL, 0);
+    VALUE(strip_record_pair_differ(&record, &o, 17), 3);
+    SPAN_VALUE(strip_record_pair_span(&o, &record, 0, 17), -1);
+}
 
 int main(void)
 {
@@ -86,6 +147,7 @@ int main(void)
     VALUE(strip_record_predecessor(&record, 0, 16), 12);
     REFUSAL(strip_record_predecessor(&record, 0, 18), STRIP_POSITION);
     VALUE(strip_record_verify(&record), 10);
+    compare();
 
     /* refused changes */
     KEPT(strip_record_create(&record, 1024), STRIP_BAD_WORDS);
