@@ -1,12 +1,13 @@
-/* The day of two cylinders' strips, by the proved calls: a simulated watch is recorded, corrected, counted, searched,
- * checked and frozen. Each line shows a call and its answers on the two strips. The image goes to the file that the
- * argument names. */
+/* The day of two cylinders' strips, by the proved calls: a simulated watch is recorded, corrected, compared with what
+ * the crank had said, counted, searched, checked and frozen. Each line shows a call and its answers on the two strips.
+ * The image goes to the file that the argument names. */
 #include "strip_record.h"
 
 #include <inttypes.h>
 #include <stdbool.h>
 #include <stdio.h>
 #include <stdlib.h>
+#include <string.h>
 
 /* Four hours of 45,000 strokes. For a minute the crank sensor was unplugged, and the engine stopped before the end. */
 #define WATCH 180000
@@ -17,14 +18,16 @@
 /* Room for the watch, a multiple of 512. */
 #define CAPACITY 180224
 
-/* A strip: its record with the buffers under it, and the counters that corrections moved. Its cylinder's number is its
- * label in the image. */
+/* A strip: its record with the buffers under it, the counters that corrections moved, and the crank strip, which holds
+ * the same strokes as they were before. Its cylinder's number is its label in the image. */
 static struct strip {
     uint64_t cylinder;
     struct strip_record record;
     uint64_t words[STRIP_WORDS(CAPACITY)];
     uint32_t counters[STRIP_COUNTERS(CAPACITY)];
     uint64_t moved;
+    struct strip_record crank;
+    uint64_t crank_words[STRIP_WORDS(CAPACITY)];
 } strips[2] = {{.cylinder = 1}, {.cylinder = 3}};
 
 /* The strip that the calls below are on. */
@@ -52,14 +55,27 @@ static answer clear(void) { return strip_answer_of(image_clear(image, sizeof ima
 static answer freeze(uint64_t label) { return strip_record_freeze(&strip->record, image, sizeof image, label); }
 static answer inspect(void) { return strip_answer_of(image_inspect(image, sizeof image)); }
 
-/* The answer of a call that has to be accepted; a refusal is told, and ends the program. */
-static answer must(const char *call, answer a)
+/* Of the crank strip first, and second the strip that the pressure trace has corrected. */
+#define PAIR &strip->crank, &strip->record
+static answer pair_only_first(uint64_t i) { return strip_record_pair_only_first(PAIR, i); }
+static answer pair_differ(uint64_t i) { return strip_record_pair_differ(PAIR, i); }
+static answer pair_find(uint64_t k) { return strip_record_pair_find(PAIR, k); }
+static struct strip_difference pair_span(uint64_t a, uint64_t b) { return strip_record_pair_span(PAIR, a, b); }
+
+/* A call that has to be accepted; a refusal is told, and ends the program. */
+static void accept(const char *call, uint64_t refusal)
 {
-    if (a.refusal != 0) {
+    if (refusal != 0) {
         fflush(stdout);
-        fprintf(stderr, "\ncylinder %" PRIu64 ", %s: refused %" PRIu64 "\n", strip->cylinder, call, a.refusal);
+        fprintf(stderr, "\ncylinder %" PRIu64 ", %s: refused %" PRIu64 "\n", strip->cylinder, call, refusal);
         exit(1);
     }
+}
+
+/* Its answer. */
+static answer must(const char *call, answer a)
+{
+    accept(call, a.refusal);
     return a;
 }
 
@@ -100,10 +116,18 @@ static uint64_t record(void)
     return strip_record_length(&strip->record);
 }
 
-/* Turns each stroke that the pressure trace judges otherwise. Answers their number. */
+/* Keeps the strip as the crank strip, in words of its own; comparing takes no counters. */
+static void keep_crank(void)
+{
+    memcpy(strip->crank_words, strip->words, sizeof strip->words);
+    strip->crank = strip_record_resume(strip->record.handle, strip->crank_words, STRIP_WORDS(CAPACITY), NULL, 0);
+}
+
+/* Turns each stroke that the pressure trace judges otherwise, once the crank strip is kept. Answers their number. */
 static uint64_t correct(void)
 {
     uint64_t turns = 0;
+    keep_crank();
     for (uint64_t p = 0; p < strip_record_length(&strip->record); p++)
         if (MUST(look(p)).value != misfired(p)) {
             strip->moved += MUST(turn(p)).second;
@@ -136,10 +160,17 @@ static void show_answer(answer a)
     printf("%12s", text);
 }
 
+/* A signed answer, of a call that has to be accepted. */
+static void show_difference(const char *call, struct strip_difference d)
+{
+    accept(call, d.refusal);
+    printf("%+12" PRId64, d.value);
+}
+
 /* A line: a call, what is shown of it for each of the two strips, and what that tells. */
 #define LINE(call, show, meaning)                         \
     do {                                                  \
-        printf("  %-22s", call);                          \
+        printf("  %-24s", call);                          \
         for (strip = strips; strip < strips + 2; strip++) \
             show;                                         \
         strip = strips;                                   \
@@ -152,9 +183,10 @@ static void show_answer(answer a)
 #define ASK_AS(text, call, meaning) LINE(text, show_answer(call), meaning)
 #define ASK(call, meaning) ASK_AS(TEXT(call), call, meaning)
 #define TELL(text, value, meaning) LINE(text, show_value(value), meaning)
+#define SHOW_SPAN(text, call, meaning) LINE(text, show_difference(TEXT(call), call), meaning)
 
 /* A line of a call on the image. */
-#define SHOW_IMAGE(call, meaning) printf("  %-22s%24" PRIu64 "  %s\n", TEXT(call), MUST(call).value, meaning)
+#define SHOW_IMAGE(call, meaning) printf("  %-24s%24" PRIu64 "  %s\n", TEXT(call), MUST(call).value, meaning)
 
 static bool write_image(const char *path)
 {
@@ -175,7 +207,7 @@ int main(int arguments, char **words)
     strip = strips;
 
     printf("A watch of four hours: 45000 strokes an hour, a bit for each stroke of a cylinder, 1 is a misfire.\n");
-    printf("%-24s%12s%12s\n", "Under way", "cylinder 1", "cylinder 3");
+    printf("%-26s%12s%12s\n", "Under way", "cylinder 1", "cylinder 3");
     SHOW(lay(CAPACITY), "counters, over room for 180224 strokes");
     TELL("add(v), each stroke", record(), "strokes recorded");
     SHOW(count(1, WATCH), "misfires before stroke 180000, says the crank");
@@ -187,6 +219,12 @@ int main(int arguments, char **words)
     TELL("", strip->moved, "counters moved by that, each by one");
     SHOW(check(), "misfires; every counter agrees with the bits");
     TELL("", plain_count(), "misfires by a plain count over the trace");
+
+    printf("Where the two camps part: the crank strip, kept before the turns, against the pressure strip\n");
+    SHOW_AS("pair differ(179400)", pair_differ(STOPPED), "strokes judged differently: those turned");
+    SHOW_AS("pair only first(179400)", pair_only_first(STOPPED), "of these, what the crank alone calls a misfire");
+    SHOW_AS("pair find(0)", pair_find(0), "the first stroke judged differently");
+    SHOW_SPAN("pair span(0, 45000)", pair_span(0, 45000), "first hour: the crank's misfires less pressure's");
 
     printf("Whose injector is it?\n");
     SHOW(count(1, 45000), "misfires before stroke 45000: the first hour");
