@@ -17,6 +17,10 @@ CALLS = (
     "count", "find 1", "find 0", "turn", "add", "next", "run", "check",
     "freeze", "inspect", "row count", "row find",
 )  # fmt: skip
+# The calls over two strips, which were measured with half ones alone.
+PAIRS = (
+    "pair both", "pair either", "pair only first", "pair differ", "pair find", "pair find, last", "pair span",
+)  # fmt: skip
 COLUMNS = ("library", "C++", "C++, checked", "scan", "scan, popcnt", "sdsl", "CRoaring")
 PAIR, NOISE, CHECKED = "library / C++", "C++ again / C++", "library / C++, checked"
 # A ratio that differs more than this from the quotient of the two times is marked.
@@ -33,7 +37,12 @@ SUMMARY = (
     ("inspect", ("inspect",), ()),
     ("row count", ("row count",), ("scan",)),
     ("row find", ("row find",), ()),
+    ("pair count", ("pair differ", "pair both", "pair either", "pair only first"), ()),
+    ("pair find", ("pair find", "pair find, last"), ()),
+    ("pair span", ("pair span",), ()),
 )
+# The calls that are to be no slower than the C++ version.
+HELD = ("count", "find 1", "find 0", "turn", "add", "run", *PAIRS[:6])
 # What callgrind counted under these names.
 FUNCTIONS = {
     "count": ("strip_rank", "tree_rank"),
@@ -51,6 +60,12 @@ FUNCTIONS = {
     "inspect": ("image_inspect", "row_inspect"),
     "row count": ("image_row_rank", "row_rank"),
     "row find": ("image_row_select", "row_select"),
+    "pair both": ("strip_pair_both", "pair_both"),
+    "pair either": ("strip_pair_either", "pair_either"),
+    "pair only first": ("strip_pair_only_first", "pair_only_first"),
+    "pair differ": ("strip_pair_differ", "pair_differ"),
+    "pair find": ("strip_pair_find", "pair_find"),
+    "pair span": ("strip_pair_span", "pair_span"),
 }
 
 
@@ -124,8 +139,8 @@ def calls_table(of, power):
     return with_note(table(head, rows))
 
 
-def cells():
-    return [(power, share) for power in POWERS for share in SHARES]
+def cells(call=None):
+    return [(power, share) for power in POWERS for share in SHARES if call not in PAIRS or share == "32/64"]
 
 
 def within(of, kind, power, share, call, pair):
@@ -141,7 +156,7 @@ def verdict(met, of=9):
 
 def no_slower(of, calls, kind="ratio", pair=PAIR):
     """In how many cells the calls are no slower than a C++ version, and in how many they were measured."""
-    met = [within(of, kind, *cell, call, pair) for call in calls for cell in cells()]
+    met = [within(of, kind, *cell, call, pair) for call in calls for cell in cells(call)]
     return sum(met), len(met)
 
 
@@ -152,7 +167,7 @@ def speeds(of, call, column, mine=None, shares=SHARES, powers=POWERS):
 
 def aims_of(of, name, calls):
     aims = []
-    if name in ("count", "find", "turn", "add", "run"):
+    if set(calls) <= set(HELD):
         aims.append("no slower than C++: " + verdict(*no_slower(of, calls)))
     if name in ("count", "find", "turn"):
         aims.append("10 times CRoaring: " + verdict(sum(x >= 10 for x in speeds(of, calls[0], "CRoaring"))))
@@ -192,13 +207,13 @@ def summary_table(of):
 def aims_table(of):
     kinds = [(level, kind, pair) for pair in (PAIR, CHECKED) for level, kind in (("-O3", "ratio"), ("-O2", "ratio-O2"))]
     rows = []
-    for call in ("count", "find 1", "find 0", "turn", "add", "run"):
+    for call in HELD:
         row = [call]
         for _, kind, pair in kinds:
-            if of.three(kind, "20", "1/64", call, pair) is None:
+            if of.three(kind, "20", "32/64", call, pair) is None:
                 row.append("")
                 continue
-            ratios = [of.three(kind, *cell, call, pair)[1] for cell in cells()]
+            ratios = [of.three(kind, *cell, call, pair)[1] for cell in cells(call)]
             row.append(f"{min(ratios):.2f} to {max(ratios):.2f}: " + verdict(*no_slower(of, [call], kind, pair)))
         rows.append(row)
     return table(["no slower than"] + [f"{pair.removeprefix('library / ')}, {level}" for level, _, pair in kinds], rows)
@@ -219,6 +234,17 @@ def others_table(of):
             row(f"{call}: 1/200 of the {column}", "24", speeds(of, call, column, powers=("24",)), lambda x: x >= 200, "1/{:.0f}")
     row("freeze: half of memcpy's speed", "24", speeds(of, "freeze", "memcpy", powers=("24",)), lambda x: x >= 0.5, "{:.2f}")
     return table(["aim", "bits", "reached, by ones 1/64, 32/64, 63/64", ""], rows)
+
+
+def pairs_table(of):
+    rows = []
+    for power in POWERS:
+        for call in PAIRS:
+            key = power, "32/64", call
+            low, middle, high = of.three("ratio-O2", *key, PAIR)
+            times = [duration(of.time(*key, column)) for column in COLUMNS[:2]]
+            rows.append([f"2^{power}", call, *times, *(spread(of, key, pair) for pair in (PAIR, NOISE)), f"{middle:.2f} ({low:.2f}–{high:.2f})"])
+    return with_note(table(["bits", "call", "library", "C++", PAIR, "C++ / C++", "library / C++, -O2"], rows))
 
 
 def freeze_table(of):
@@ -345,9 +371,10 @@ def legend(parts, names, y):
 def ratios_plot(of):
     shapes = (("ring", "20"), ("square", "24"), ("triangle", "27"))
     left, right, top, step = 140, WIDTH - 24, 70, 40
-    high = max(of.three("ratio", p, "32/64", call, PAIR)[2] for p in POWERS for call in CALLS)
+    calls = CALLS + PAIRS
+    high = max(of.three("ratio", p, "32/64", call, PAIR)[2] for p in POWERS for call in calls)
     high = max(1.5, math.ceil(10 * high) / 10)
-    bottom = top + step * len(CALLS)
+    bottom = top + step * len(calls)
 
     def at(ratio):
         return left + (right - left) * ratio / high
@@ -358,7 +385,7 @@ def ratios_plot(of):
         dash = "" if tick == 1 else ' stroke-dasharray="1 4"'
         parts.append(line(at(tick), top - 8, at(tick), bottom, dash))
         parts.append(text(at(tick), bottom + 18, number(tick)))
-    for row, call in enumerate(CALLS):
+    for row, call in enumerate(calls):
         y = top + step * row + 8
         parts.append(text(left - 10, y + 12, call, "end"))
         for place, (shape, power) in enumerate(shapes):
@@ -401,7 +428,7 @@ def main():
     tables = {
         "summary": summary_table, "machine": machine_table, "aims": aims_table, "others": others_table,
         "freeze": freeze_table, "alone": alone_table, "flips": flips_table, "instructions": instructions_table, "memory": memory_table, "stack": stack_table,
-        "size": size_table, "word": word_table,
+        "size": size_table, "word": word_table, "pairs": pairs_table,
     }  # fmt: skip
     made = {name: make(of) for name, make in tables.items()}
     made |= {f"2^{power}": calls_table(of, power) for power in POWERS}

@@ -1,13 +1,14 @@
 //! Times the calls on full strips and on a frozen row at 2^20, 2^24 and 2^27 bits and three densities of ones: the
 //! proved library; the same by hand in C++ (tree.cpp, row.cpp), twice, to know the noise; count, find, turn and add by
 //! hand with the library's checks; a plain scan; sdsl-lite and CRoaring where they are installed; and memcpy beside
-//! freeze. All stand in one run, in alternating rounds. Each measurement asks for fresh random places, and follows one of
-//! the same kind that does not count. Prints lines of tab-separated fields:
+//! freeze; and the calls over two strips, half ones, beside pair.cpp. All stand in one run, in alternating rounds. Each
+//! measurement asks for fresh random places, and follows one of the same kind that does not count. Prints lines of
+//! tab-separated fields:
 //!   time   power  density  call  column  lower quartile, median, upper quartile, in ns a call
 //!   ratio  power  density  call  columns  the same, over the rounds
 //!   bytes  power  density  what  bytes
-//! `main ROUNDS POWER ..` takes other rounds and sizes. `main calls POWER COUNT` only makes COUNT calls of each kind, of
-//! the library and by hand, to be counted from outside.
+//! `main ROUNDS POWER ..` takes other rounds and sizes, and `main pairs ROUNDS POWER ..` the calls over two strips alone.
+//! `main calls POWER COUNT` only makes COUNT calls of each kind, of the library and by hand, to be counted from outside.
 #[allow(dead_code)]
 #[path = "../src/ffi.rs"]
 mod ffi;
@@ -16,11 +17,13 @@ mod ffi;
 mod random;
 
 mod other;
+mod pair;
 mod record;
 mod row;
 mod scan;
 
 use other::{Roaring, Sdsl};
+use pair::{Pair, Rule};
 use random::Random;
 use record::Record;
 use row::Row;
@@ -45,6 +48,10 @@ enum Call {
     Inspect,
     RowCount,
     RowFind,
+    PairCount(Rule),
+    PairFind,
+    PairLast,
+    PairSpan,
 }
 use Call::*;
 
@@ -62,6 +69,16 @@ const CALLS: [(Call, &str); 13] = [
     (Inspect, "inspect"),
     (RowCount, "row count"),
     (RowFind, "row find"),
+];
+
+const PAIRS: [(Call, &str); 7] = [
+    (PairCount(Rule::Both), "pair both"),
+    (PairCount(Rule::Either), "pair either"),
+    (PairCount(Rule::OnlyFirst), "pair only first"),
+    (PairCount(Rule::Differ), "pair differ"),
+    (PairFind, "pair find"),
+    (PairLast, "pair find, last"),
+    (PairSpan, "pair span"),
 ];
 
 #[derive(Clone, Copy, PartialEq)]
@@ -88,6 +105,9 @@ const COLUMNS: [(Column, &str); 9] = [
     (Column::Roaring, "CRoaring"),
     (Column::Memcpy, "memcpy"),
 ];
+
+/// The finds over two strips that make a figure.
+const PARTS: usize = 16;
 
 /// How many calls make a figure, and whether each waits for the answer of the one before.
 #[derive(Clone, Copy)]
@@ -137,7 +157,7 @@ fn word(random: &mut Random, share: usize) -> u64 {
     }
 }
 
-/// Strip, row and the rest over the same bits.
+/// Strip, row and the rest over the same bits; the pair has a second strip beside it.
 struct Bench {
     bits: usize,
     share: usize,
@@ -145,6 +165,7 @@ struct Bench {
     ones: usize,
     record: Record,
     row: Row,
+    pair: Pair,
     sdsl: Option<Sdsl>,
     roaring: Option<Roaring>,
     random: Random,
@@ -159,18 +180,26 @@ impl Bench {
         let record = Record::new(&words, huge);
         let (sdsl, roaring) = if others { (Sdsl::new(&words), Roaring::new(&words)) } else { (None, None) };
         let (ones, row) = (record.rank(1, bits), Row::new(&words));
-        Bench { bits, share, words, ones, record, row, sdsl, roaring, random, waits: false }
+        let pair = Pair::new(words.clone(), words.iter().map(|_| word(&mut random, share)).collect());
+        Bench { bits, share, words, ones, record, row, pair, sdsl, roaring, random, waits: false }
     }
 
-    /// Random queries of a call.
+    /// Random queries of a call. A find over two strips reads up to its k, so those of one figure take theirs from as
+    /// many equal parts; the other calls over two strips go over the whole of both.
     fn queries(&mut self, call: Call, count: usize) -> Vec<usize> {
-        let (random, bits) = (&mut self.random, self.bits);
+        let (random, bits, last) = (&mut self.random, self.bits, self.pair.differing - 1);
         let mut below = |n: usize| (0..count).map(|_| random.below(n)).collect::<Vec<_>>();
         match call {
             Find(0) => below(bits - self.ones),
             Find(_) | RowFind => below(self.ones),
             Add => below(64).iter().map(|x| usize::from(*x < self.share)).collect(),
             Run => below(bits / 64).iter().map(|j| 64 * j).collect(),
+            PairFind => {
+                let parts = count.clamp(1, PARTS);
+                below(last).iter().enumerate().map(|(j, k)| (last * (j % parts) + k) / parts).collect()
+            }
+            PairLast => vec![last; count],
+            PairCount(_) | PairSpan => vec![bits; count],
             _ => below(bits),
         }
     }
@@ -184,6 +213,8 @@ impl Bench {
             (Run, Column::Roaring) => (100, 50),
             (_, Column::Roaring) => (1000, 250),
             (Run | Check | Freeze | Inspect, _) => ((near / self.bits).clamp(1, 16), 1),
+            (PairFind, _) => (PARTS * (near / self.bits).clamp(3, 8), PARTS),
+            (PairCount(_) | PairLast | PairSpan, _) => ((near / self.bits).clamp(4, 16), 1),
             _ => (20_000, 1000),
         }
     }
@@ -226,7 +257,7 @@ impl Bench {
 
     fn library(&mut self, call: Call, q: &[usize], pace: Pace) -> Vec<f64> {
         let mut next = self.prepare(call, q.len());
-        let (r, row) = (&mut self.record, &mut self.row);
+        let (r, row, pair) = (&mut self.record, &mut self.row, &self.pair);
         let times = match call {
             Count => time(q, pace, |i| r.rank(1, i)),
             Find(v) => time(q, pace, |k| r.select(v, k)),
@@ -240,6 +271,9 @@ impl Bench {
             Inspect => time(q, pace, |_| row.inspect()),
             RowCount => time(q, pace, |i| row.rank(i)),
             RowFind => time(q, pace, |k| row.select(k)),
+            PairCount(rule) => time(q, pace, |i| pair.count(rule, i)),
+            PairFind | PairLast => time(q, pace, |k| pair.find(k)),
+            PairSpan => time(q, pace, |b| pair.span(0, b) as usize),
         };
         self.restore(call);
         times
@@ -247,7 +281,7 @@ impl Bench {
 
     fn hand(&mut self, call: Call, q: &[usize], pace: Pace) -> Vec<f64> {
         let mut next = self.prepare(call, q.len());
-        let (r, row) = (&mut self.record, &mut self.row);
+        let (r, row, pair) = (&mut self.record, &mut self.row, &self.pair);
         let times = match call {
             Count => time(q, pace, |i| r.tree_rank(i)),
             Find(v) => time(q, pace, |k| r.tree_select(v, k)),
@@ -261,6 +295,9 @@ impl Bench {
             Inspect => time(q, pace, |_| row.tree_inspect()),
             RowCount => time(q, pace, |i| row.tree_rank(i)),
             RowFind => time(q, pace, |k| row.tree_select(k)),
+            PairCount(rule) => time(q, pace, |i| pair.hand_count(rule, i)),
+            PairFind | PairLast => time(q, pace, |k| pair.hand_find(k)),
+            PairSpan => time(q, pace, |b| pair.hand_span(0, b) as usize),
         };
         self.restore(call);
         times
@@ -401,6 +438,33 @@ impl Bench {
         assert!(self.row.inspect() == 1 && self.row.tree_inspect() == 1);
     }
 
+    /// The same for the calls over two strips, with a scan of what the rules make of them.
+    fn compare_pairs(&mut self) {
+        let mut places = self.queries(Count, 6);
+        places.extend([0, 1, 63, 64, 65, self.bits - 1, self.bits]);
+        let pair = &self.pair;
+        for rule in [Rule::Both, Rule::Either, Rule::OnlyFirst, Rule::Differ] {
+            let joined = pair.joined(rule);
+            for i in &places {
+                assert_eq!(pair.count(rule, *i), scan::rank(&joined, *i));
+                assert_eq!(pair.hand_count(rule, *i), scan::rank(&joined, *i));
+            }
+        }
+        let joined = pair.joined(Rule::Differ);
+        let last = pair.differing - 1;
+        for k in places.iter().map(|i| i % last).chain([last]) {
+            assert_eq!(pair.find(k), scan::select(&joined, 1, k));
+            assert_eq!(pair.hand_find(k), scan::select(&joined, 1, k));
+        }
+        let ones = pair.strips().map(|words| places.iter().map(|i| scan::rank(&words, *i) as i64).collect::<Vec<_>>());
+        for (x, a) in places.iter().enumerate() {
+            for (y, b) in places.iter().enumerate().filter(|(_, b)| a <= b) {
+                let less = ones[0][y] - ones[0][x] - (ones[1][y] - ones[1][x]);
+                assert!(pair.span(*a, *b) == less && pair.hand_span(*a, *b) == less);
+            }
+        }
+    }
+
     /// Rounds of these calls and columns; prints the figures under the calls' names and a note.
     fn run(&mut self, calls: &[(Call, &str)], columns: &[(Column, &str)], note: &str, rounds: usize) {
         let mut figures = vec![vec![Vec::new(); columns.len()]; calls.len()];
@@ -474,25 +538,31 @@ fn word_select(rounds: usize) {
 /// As many calls of each kind, for a counter of instructions; the whole-record calls a hundredth of them.
 fn calls(power: u32, count: usize) {
     let mut bench = Bench::new(power, 32, false, false);
-    for (call, _) in CALLS.into_iter().filter(|(call, _)| *call != Find(0)) {
-        let whole = matches!(call, Run | Check | Freeze | Inspect);
-        let queries = bench.queries(call, 1000);
-        let q = &queries[..if whole { count / 100 } else { count }];
-        bench.library(call, q, PACE);
-        bench.hand(call, q, PACE);
-        bench.checked(call, q, PACE);
+    for (call, _) in CALLS.into_iter().chain(PAIRS).filter(|(call, _)| !matches!(call, Find(0) | PairLast)) {
+        let whole = matches!(call, Run | Check | Freeze | Inspect | PairCount(_) | PairFind | PairSpan);
+        let q = bench.queries(call, if whole { count / 100 } else { count });
+        bench.library(call, &q, PACE);
+        bench.hand(call, &q, PACE);
+        bench.checked(call, &q, PACE);
     }
 }
 
 fn main() {
-    let arguments: Vec<String> = std::env::args().skip(1).collect();
-    let number = |j: usize| arguments[j].parse::<usize>().expect("a number");
-    if arguments.first().is_some_and(|mode| mode == "calls") {
-        return calls(number(1) as u32, number(2));
+    let mut arguments = std::env::args().skip(1).peekable();
+    let mode = arguments.next_if(|x| x == "calls" || x == "pairs").unwrap_or_default();
+    let numbers: Vec<usize> = arguments.map(|x| x.parse().expect("a number")).collect();
+    if mode == "calls" {
+        return calls(numbers[0] as u32, numbers[1]);
     }
-    let rounds = if arguments.is_empty() { 20 } else { number(0) };
-    let powers: Vec<u32> = (1..arguments.len()).map(|j| number(j) as u32).collect();
+    let rounds = numbers.first().copied().unwrap_or(20);
+    let powers: Vec<u32> = numbers.iter().skip(1).map(|x| *x as u32).collect();
     for power in if powers.is_empty() { vec![20, 24, 27] } else { powers } {
+        if mode == "pairs" {
+            let mut bench = Bench::new(power, 32, false, false);
+            bench.compare_pairs();
+            bench.run(&PAIRS, &COLUMNS[..3], "", rounds);
+            continue;
+        }
         for share in [1, 32, 63] {
             let mut bench = Bench::new(power, share, false, true);
             bench.compare();
@@ -504,6 +574,10 @@ fn main() {
                 }
             }
             bench.run(&CALLS, &COLUMNS, "", rounds);
+            if share == 32 {
+                bench.compare_pairs();
+                bench.run(&PAIRS, &COLUMNS[..3], "", rounds);
+            }
         }
         let calls = [(Count, "count"), (Find(1), "find 1"), (Turn, "turn")];
         for (note, huge, waits) in KINDS {
@@ -513,5 +587,7 @@ fn main() {
             println!("bytes\t{power}\t32/64\tin 2 MiB pages{note}\t{}", huge_bytes());
         }
     }
-    word_select(rounds);
+    if mode.is_empty() {
+        word_select(rounds);
+    }
 }

@@ -18,8 +18,9 @@ import re
 import subprocess
 import sys
 
-# Calls that are made a hundredth as often.
+# Calls that are made a hundredth as often: by their names, and by how their names begin.
 WHOLE = ("strip_fill", "tree_fill", "strip_verify", "tree_verify", "image_freeze", "row_freeze", "image_inspect", "row_inspect")
+PAIRS = ("strip_pair_", "pair_")
 
 
 def output(*command):
@@ -115,7 +116,7 @@ def instructions(path):
         counts.setdefault((int(power), name), {})[int(number)] = [0 if x == "." else int(x) for x in figures]
     for (power, name), runs in sorted(counts.items()):
         most = max(runs)
-        made = most // 100 if name in WHOLE else most
+        made = most // 100 if name in WHOLE or name.startswith(PAIRS) else most
         more = [a - b for a, b in zip(runs[most], runs.get(0, [0, 0]))]
         if most and more[0] >= made:
             print("instructions", power, name, round(more[0] / made, 1), round(more[1] / made, 2), sep="\t")
