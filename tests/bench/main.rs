@@ -180,7 +180,8 @@ impl Bench {
         let record = Record::new(&words, huge);
         let (sdsl, roaring) = if others { (Sdsl::new(&words), Roaring::new(&words)) } else { (None, None) };
         let (ones, row) = (record.rank(1, bits), Row::new(&words));
-        let pair = Pair::new(words.clone(), words.iter().map(|_| word(&mut random, share)).collect());
+        let mut second = Random::new(2);
+        let pair = Pair::new(words.clone(), words.iter().map(|_| word(&mut second, share)).collect());
         Bench { bits, share, words, ones, record, row, pair, sdsl, roaring, random, waits: false }
     }
 
