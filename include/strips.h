@@ -16,10 +16,11 @@
  * the first, and every other change the one to go on with.
  *
  * LENDING. A call is lent the elements x[0] to x[x_len - 1] of each buffer x. They are aligned for their type, words
- * and out to 8 bytes, counters to 4, image to 1. The buffers of one call do not overlap, and nobody else uses what it
- * writes, or changes what it reads, until it returns. It allocates nothing and keeps nothing. A buffer of length 0
- * may be NULL. What no call can see is the caller's to keep: that so many elements are there, aligned and apart. All
- * else is judged, and any numbers and any contents may be given.
+ * and out to 8 bytes, counters to 4, image to 1. The buffers of one call do not overlap, but for the words of two
+ * strips, which are only read and may be the same. Nobody else uses what a call writes, or changes what it reads, until
+ * it returns. It allocates nothing and keeps nothing. A buffer of length 0 may be NULL. What no call can see is the
+ * caller's to keep: that so many elements are there, aligned and apart. All else is judged, and any numbers and any
+ * contents may be given.
  *
  * NUMBERS. Every argument is taken as the 64-bit number that it is, and none is cut: a v of 2^32 + 1 is refused 8, a
  * capacity of 2^32 + 512 is refused 1.
