@@ -10,6 +10,7 @@ mod guarded;
 pub mod image;
 pub mod layout;
 pub mod model;
+pub mod pages;
 pub mod pair;
 pub mod paper;
 pub mod query;
