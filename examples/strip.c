@@ -19,7 +19,7 @@
 #define CAPACITY 180224
 
 /* A strip: its record with the buffers under it, the counters that corrections moved, and the crank strip, which holds
- * the same strokes as they were before. Its cylinder's number is its label in the image. */
+ * the same strokes as they were before the turns. Its cylinder's number is its label in the image. */
 static struct strip {
     uint64_t cylinder;
     struct strip_record record;

@@ -25,10 +25,10 @@
  * neither 0 nor 1, a label of 2^32 + 3 as none from 1 to 64, an i of 2^64 - 1 as a position above the length.
  *
  * ANSWERS. A call answers its value, which is below 2^32, or 2^32 plus the number of a refusal: see STRIP_REFUSED.
- * Keep an answer in a uint64_t: cut to 32 bits, a refusal looks like a small value. The refusals of a call are named
- * with it in the order in which they are judged, and the first that applies is given (but see image_row_select on a
- * wrong row). After a semicolon stands the refusal that only a wrong row gets. Below each call stands what the inputs
- * at its edges get: a value, or "refused" with the number.
+ * Keep an answer in a uint64_t: cut to 32 bits, a refusal looks like a small value. (strip_pair_span of strips.h
+ * answers an int64_t.) The refusals of a call are named with it in the order in which they are judged, and the first
+ * that applies is given (but see image_row_select on a wrong row). After a semicolon stands the refusal that only a
+ * wrong row gets. Below each call stands what the inputs at its edges get: a value, or "refused" with the number.
  *
  * TIME. Every call walks the chain, over 12 bytes of each record. Then image_inspect reads every record whole,
  * image_row_select searches by halving, image_row_label walks the chain again up to the k-th record, and the others
@@ -47,12 +47,13 @@ extern "C" {
 /* Why a call is refused. A length is that of the strip or of the row. */
 enum strip_refusal {
     STRIP_BAD_HANDLE = 1,     /* capacity not a multiple of 512 from 512 to 134,217,728, or length above capacity */
-    STRIP_BAD_WORDS = 2,      /* words_len not capacity / 64 */
+    STRIP_BAD_WORDS = 2,      /* words_len, of two strips first_len or second_len, not capacity / 64 */
     STRIP_BAD_COUNTERS = 3,   /* counters_len not the number that the capacity needs */
     STRIP_POSITION = 4,       /* a position above the length; for a get or a flip also at the length.
                                  image_record_size: a length above 134,217,728 */
     STRIP_SPAN = 5,           /* a span whose start is above its end */
-    STRIP_NOT_FOUND = 6,      /* no such position; for a select: k not below the number of v */
+    STRIP_NOT_FOUND = 6,      /* no such position; for a select: k not below the number of v.
+                                 strip_pair_find: k not below the number of strokes judged differently */
     STRIP_FULL = 7,           /* length at capacity */
     STRIP_BAD_VALUE = 8,      /* v neither 0 nor 1 */
     STRIP_UNFIT = 9,          /* the record does not fit: a one at or past the length, or a wrong counter */

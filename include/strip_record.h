@@ -42,7 +42,7 @@ struct strip_difference {
 };
 
 /* A record over these buffers, of which nothing is read yet. Up to an accepted strip_record_create every other call
- * on it is refused by STRIP_BAD_HANDLE. */
+ * on it is refused, by STRIP_BAD_HANDLE unless a record before it is refused first. */
 static inline struct strip_record strip_record_over(uint64_t *words, size_t words_len, uint32_t *counters,
                                                     size_t counters_len)
 {
@@ -64,7 +64,8 @@ static inline uint64_t strip_record_capacity(const struct strip_record *r) { ret
 
 static inline uint64_t strip_record_length(const struct strip_record *r) { return r->handle.length; }
 
-/* The answer of a call that takes no record, as strip_answer_of(image_inspect(image, image_len)). */
+/* The answer of a call that takes no record and returns a uint64_t, as strip_answer_of(image_inspect(image, image_len)).
+ * That of strip_pair_span is an int64_t: see strip_record_pair_span. */
 static inline struct strip_answer strip_answer_of(uint64_t answer)
 {
     struct strip_answer a = {0, 0, 0};
@@ -166,7 +167,8 @@ static inline struct strip_answer strip_record_freeze(const struct strip_record 
 }
 
 /* ---- Two strips compared. Of both records the handle and the words are read, and no counters; so a record that is
- * only compared may be one of strip_record_resume with NULL, 0 for counters. */
+ * only compared may be one of strip_record_resume with NULL, 0 for counters. A strip that is ahead may be compared under
+ * the other's handle: strip_record_resume(second.handle, first.words, first.words_len, NULL, 0). */
 
 /* The arguments that these calls start with; undefined again below. */
 #define STRIP_RECORD_PAIR                                                         \

@@ -17,7 +17,7 @@
  *
  * LENDING. A call is lent the elements x[0] to x[x_len - 1] of each buffer x. They are aligned for their type, words
  * and out to 8 bytes, counters to 4, image to 1. The buffers of one call do not overlap, but for the words of two
- * strips, which are only read and may be the same. Nobody else uses what a call writes, or changes what it reads, until
+ * strips, which are only read, and may overlap or be the same. Nobody else uses what a call writes, or changes what it reads, until
  * it returns. It allocates nothing and keeps nothing. A buffer of length 0 may be NULL. What no call can see is the
  * caller's to keep: that so many elements are there, aligned and apart. All else is judged, and any numbers and any
  * contents may be given.
@@ -36,8 +36,8 @@
  *
  * TIME. strip_create, strip_fill, strip_truncate and strip_verify go over all words and counters, strip_successor and
  * strip_predecessor from word to word up to the first hit, image_freeze over the words up to the length. The calls on
- * two strips go over the words of both, each word once: those before i, those up to the stroke found, those of the
- * span. The other calls on a strip take constant time.
+ * two strips go over the words of both, each word once: those before i, those up to the stroke found or to the length,
+ * those of the span. The other calls on a strip take constant time.
  */
 #ifndef STRIPS_H
 #define STRIPS_H
@@ -228,7 +228,8 @@ uint64_t strip_verify(uint64_t capacity, uint64_t length, const uint64_t *words,
  *   1, 2   of the second strip, on its own
  *   16     first_capacity is not second_capacity, or first_length is not second_length
  * So a first strip that gets 2, beside a second that gets 1, is refused 2; and two strips of unequal length are
- * refused 16 wherever i, k, a and b are. Below, "length" is that of both. */
+ * refused 16 wherever i, k, a and b are. A strip that is ahead may be compared under the other's length, since the bits
+ * past it are ignored. Below, "length" is that of both. */
 
 /* pair both(i).
  * Value: how many of the first i strokes both strips mark, 0 to i. The stroke at position i is not counted.
@@ -275,8 +276,8 @@ uint64_t strip_pair_find(uint64_t first_capacity, uint64_t first_length, const u
 /* pair span(a, b).
  * Value: the ones of the first strip at the positions a to b - 1 less those of the second, from -(b - a) to b - a;
  * so never below -134,217,728, nor above 134,217,728. A refusal comes as 2^32 plus its number here too, which no value
- * reaches: STRIP_REFUSED and STRIP_REFUSAL take the answer as it is. Keep it in an int64_t: as a uint64_t, a negative
- * value looks like a refusal.
+ * reaches: STRIP_REFUSED and STRIP_REFUSAL take the answer as it is. Keep it in an int64_t: cut to an int, a refusal
+ * looks like a small value; as a uint64_t, a negative value looks like a refusal.
  * Refusals: 1, 2, 1, 2, 16, 5, 4.
  *   a above b        refused 5, wherever b is
  *   b = length       accepted

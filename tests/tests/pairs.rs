@@ -447,7 +447,8 @@ fn largest_strips() {
         for length in [LARGEST, LARGEST - 77] {
             (first.handle.length, second.handle.length) = (length, length);
             let some = random.number_below(length);
-            let [.., differing] = counts(length).map(|c| compare(c, &mut first, &mut second).unwrap());
+            let [both, either, _, differing] = counts(length).map(|c| compare(c, &mut first, &mut second).unwrap());
+            assert_eq!(either, both + differing);
             let number = differing as u64;
             compare(Find(number - 1), &mut first, &mut second).unwrap();
             expect(Find(number), &mut first, &mut second, Err(NotFound));

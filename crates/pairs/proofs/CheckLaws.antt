@@ -1,4 +1,4 @@
--- The checks of a call over two strips: what they leave. Assumes nothing.
+-- The checks of a call on two strips: what they leave. Assumes nothing.
 use mathlib.Core.Path.{_≡_}
 use mathlib.Core.Bool.{_&&_}
 use mathlib.Core.List.{[], _∷_, _++_}

@@ -1,4 +1,4 @@
--- The calls over two strips: their refusals in order, and their answers. Assumes nothing.
+-- The calls on two strips: their refusals in order, and their answers. Assumes nothing.
 use Prim.Native.Nat.{ℕ, _+_, _-_, _^_}
 use mathlib.Core.Bool.{not, _&&_}
 use mathlib.Core.List.{List, [], _∷_, _++_}
@@ -20,7 +20,7 @@ use Rattle.pairs.specs.Rules.{joined}
 abbrev pub unequalLine : Handle → Handle → Line
 unequalLine first second = not (eqb (first .capacity) (second .capacity) && eqb (first .length) (second .length)) ⇒ 16
 
--- all calls over two strips first: the first strip's 1, 2; the second's; 16. `words` and `others` are the numbers of words lent
+-- all calls on two strips first: the first strip's 1, 2; the second's; 16. `words` and `others` are the numbers of words lent
 abbrev pub pairLines : Handle → ℕ → Handle → ℕ → List Line
 pairLines first words second others = stripLines first words untaken ++ (stripLines second others untaken ++ (unequalLine first second ∷ []))
 

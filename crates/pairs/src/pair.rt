@@ -1,4 +1,4 @@
-// The calls over two strips, each on its words alone. They ignore the bits past the length and write nothing.
+// The calls on two strips, each on its words alone. They ignore the bits past the length and write nothing.
 ghost use mathlib.Core.Path.{_≡_};
 ghost use lib.ListN.{length};
 ghost use Rattle.words.specs.Refusals.{judge, verdictOf, toldOf};
@@ -32,7 +32,7 @@ pub fn coded_span(d: Spanned) -> i64
     }
 }
 
-// The checks of a call over two strips: the first strip's 1, 2; the second's; 16. `words` and `others` are the numbers of words lent.
+// The checks of a call on two strips: the first strip's 1, 2; the second's; 16. `words` and `others` are the numbers of words lent.
 pub fn check_pair(first: Handle, words: usize, second: Handle, others: usize) -> Verdict
     ensures { λ r. ⌜ verdictOf r ≡ judge (pairLines first words second others) ⌝ }
 {

@@ -1,4 +1,4 @@
-// What libstrips.a exports: the seventeen calls and those over two strips for C, one function each, and the queries of sizes and rows.
+// What libstrips.a exports: the seventeen calls and those on two strips for C, one function each, and the queries of sizes and rows.
 mod images;
 mod pair;
 mod record;
