@@ -17,7 +17,7 @@ CALLS = (
     "count", "find 1", "find 0", "turn", "add", "next", "run", "check",
     "freeze", "inspect", "row count", "row find",
 )  # fmt: skip
-# The calls over two strips, which were measured with half ones alone.
+# The calls on two strips, which were measured with half ones alone.
 PAIRS = (
     "pair both", "pair either", "pair only first", "pair differ", "pair find", "pair find, last", "pair span",
 )  # fmt: skip

@@ -1,13 +1,13 @@
 //! Times the calls on full strips and on a frozen row at 2^20, 2^24 and 2^27 bits and three densities of ones: the
 //! proved library; the same by hand in C++ (tree.cpp, row.cpp), twice, to know the noise; count, find, turn and add by
 //! hand with the library's checks; a plain scan; sdsl-lite and CRoaring where they are installed; and memcpy beside
-//! freeze; and the calls over two strips, half ones, beside pair.cpp. All stand in one run, in alternating rounds. Each
+//! freeze; and the calls on two strips, half ones, beside pair.cpp. All stand in one run, in alternating rounds. Each
 //! measurement asks for fresh random places, and follows one of the same kind that does not count. Prints lines of
 //! tab-separated fields:
 //!   time   power  density  call  column  lower quartile, median, upper quartile, in ns a call
 //!   ratio  power  density  call  columns  the same, over the rounds
 //!   bytes  power  density  what  bytes
-//! `main ROUNDS POWER ..` takes other rounds and sizes, and `main pairs ROUNDS POWER ..` the calls over two strips alone.
+//! `main ROUNDS POWER ..` takes other rounds and sizes, and `main pairs ROUNDS POWER ..` the calls on two strips alone.
 //! `main calls POWER COUNT` only makes COUNT calls of each kind, of the library and by hand, to be counted from outside.
 #[allow(dead_code)]
 #[path = "../src/ffi.rs"]
@@ -106,7 +106,7 @@ const COLUMNS: [(Column, &str); 9] = [
     (Column::Memcpy, "memcpy"),
 ];
 
-/// The finds over two strips that make a figure.
+/// The finds on two strips that make a figure.
 const PARTS: usize = 16;
 
 /// How many calls make a figure, and whether each waits for the answer of the one before.
@@ -185,8 +185,8 @@ impl Bench {
         Bench { bits, share, words, ones, record, row, pair, sdsl, roaring, random, waits: false }
     }
 
-    /// Random queries of a call. A find over two strips reads up to its k, so those of one figure take theirs from as
-    /// many equal parts; the other calls over two strips go over the whole of both.
+    /// Random queries of a call. A find on two strips reads up to its k, so those of one figure take theirs from as
+    /// many equal parts; the other calls on two strips go over the whole of both.
     fn queries(&mut self, call: Call, count: usize) -> Vec<usize> {
         let (random, bits, last) = (&mut self.random, self.bits, self.pair.differing - 1);
         let mut below = |n: usize| (0..count).map(|_| random.below(n)).collect::<Vec<_>>();
@@ -439,7 +439,7 @@ impl Bench {
         assert!(self.row.inspect() == 1 && self.row.tree_inspect() == 1);
     }
 
-    /// The same for the calls over two strips, with a scan of what the rules make of them.
+    /// The same for the calls on two strips, with a scan of what the rules make of them.
     fn compare_pairs(&mut self) {
         let mut places = self.queries(Count, 6);
         places.extend([0, 1, 63, 64, 65, self.bits - 1, self.bits]);

@@ -1,4 +1,4 @@
-// The calls over two strips written by hand in C++, for comparison: one pass over the words of both. Nothing is checked:
+// The calls on two strips written by hand in C++, for comparison: one pass over the words of both. Nothing is checked:
 // the caller lends as many words as are read, and positions and k that are there. gcc has no ones count for baseline
 // x86-64 but a call for each word; word::ones, which the other versions take too, is faster.
 #include "word.hpp"
