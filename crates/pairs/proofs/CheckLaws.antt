@@ -13,7 +13,7 @@ use Rattle.words.specs.Handles.{mostBits, untaken, stripLines}
 use Rattle.words.specs.Calls.{withinLine, spanLine}
 use Rattle.words.proofs.BoolLaws.{and-second, not-not}
 use Rattle.words.proofs.CheckLaws.{Checked, checked, passes, passed-both}
-use Rattle.pairs.specs.Calls.{unequalLine, pairLines, pairWithinTable, pairSpanTable}
+use Rattle.pairs.specs.Calls.{equalTable, pairLines, pairWithinTable, pairSpanTable}
 
 -- one length, whose positions lie in the words of both strips
 pub record CheckedPair (first : Handle) (words : ℕ) (second : Handle) (others : ℕ) : Type 0 where
@@ -25,11 +25,11 @@ pub record CheckedPair (first : Handle) (words : ℕ) (second : Handle) (others 
 pub checked-pair : (first : Handle) (words : ℕ) (second : Handle) (others : ℕ) → judge (pairLines first words second others) ≡ none
     → CheckedPair first words second others
 checked-pair first words second others p =
-    let a = passed-both (stripLines first words untaken) (stripLines second others untaken ++ (unequalLine first second ∷ [])) p in
-    let b = passed-both (stripLines second others untaken) (unequalLine first second ∷ []) (a .1) in
+    let a = passed-both (stripLines first words untaken) (stripLines second others untaken ++ (equalTable first second)) p in
+    let b = passed-both (stripLines second others untaken) (equalTable first second) (a .1) in
     let one : Checked first words untaken = checked first words untaken (a .0) in
     let other : Checked second others untaken = checked second others untaken (b .0) in
-    let e = not-not (eqb (first .capacity) (second .capacity) && eqb (first .length) (second .length)) (passes (unequalLine first second ∷ []) (b .1) .0) in
+    let e = not-not (eqb (first .capacity) (second .capacity) && eqb (first .length) (second .length)) (passes (equalTable first second) (b .1) .0) in
     let n : first .length ≡ second .length = eqb-true _ _ (and-second (eqb (first .capacity) (second .capacity)) (eqb (first .length) (second .length)) e) in
     record {
       equal = n;

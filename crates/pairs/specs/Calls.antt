@@ -16,13 +16,13 @@ use Rattle.pairs.specs.declared.pair.Spanned.{Spanned}
 use Rattle.pairs.specs.declared.pair.Spanned.the-variants.{Value, Refused}
 use Rattle.pairs.specs.Rules.{joined}
 
--- 16 capacity or length unequal
-abbrev pub unequalLine : Handle → Handle → Line
-unequalLine first second = not (eqb (first .capacity) (second .capacity) && eqb (first .length) (second .length)) ⇒ 16
+-- two strips against each other: 16 capacity or length unequal
+abbrev pub equalTable : Handle → Handle → List Line
+equalTable first second = (not (eqb (first .capacity) (second .capacity) && eqb (first .length) (second .length)) ⇒ 16) ∷ []
 
 -- all calls on two strips first: the first strip's 1, 2; the second's; 16. `words` and `others` are the numbers of words lent
 abbrev pub pairLines : Handle → ℕ → Handle → ℕ → List Line
-pairLines first words second others = stripLines first words untaken ++ (stripLines second others untaken ++ (unequalLine first second ∷ []))
+pairLines first words second others = stripLines first words untaken ++ (stripLines second others untaken ++ equalTable first second)
 
 -- one that takes a position not above the length: the same; 4
 abbrev pub pairWithinTable : Handle → ℕ → Handle → ℕ → ℕ → List Line

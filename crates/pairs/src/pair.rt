@@ -3,7 +3,7 @@ ghost use mathlib.Core.Path.{_≡_};
 ghost use lib.ListN.{length};
 ghost use Rattle.words.specs.Refusals.{judge, verdictOf, toldOf};
 ghost use Rattle.pairs.specs.Rules.{ruleOf};
-ghost use Rattle.pairs.specs.Calls.{spannedOf, codedSpan, pairLines, pairWithinTable, pairSpanTable, pairRankTold, pairSelectTold, pairSpanTold};
+ghost use Rattle.pairs.specs.Calls.{spannedOf, codedSpan, equalTable, pairLines, pairWithinTable, pairSpanTable, pairRankTold, pairSelectTold, pairSpanTold};
 use super::rule::Rule;
 use super::scan::joined_ones;
 use super::scan::joined_place;
@@ -32,18 +32,10 @@ pub fn coded_span(d: Spanned) -> i64
     }
 }
 
-// The checks of a call on two strips: the first strip's 1, 2; the second's; 16. `words` and `others` are the numbers of words lent.
-pub fn check_pair(first: Handle, words: usize, second: Handle, others: usize) -> Verdict
-    ensures { λ r. ⌜ verdictOf r ≡ judge (pairLines first words second others) ⌝ }
+// The check of two strips against each other: 16.
+fn check_equal(first: Handle, second: Handle) -> Verdict
+    ensures { λ r. ⌜ verdictOf r ≡ judge (equalTable first second) ⌝ }
 {
-    let verdict = check_strip(first, words, UNTAKEN);
-    let Verdict::Pass = verdict else {
-        return verdict;
-    };
-    let other = check_strip(second, others, UNTAKEN);
-    let Verdict::Pass = other else {
-        return other;
-    };
     if first.capacity != second.capacity {
         return Verdict::Refuse(Refusal::Unequal);
     }
@@ -51,6 +43,22 @@ pub fn check_pair(first: Handle, words: usize, second: Handle, others: usize) ->
         return Verdict::Refuse(Refusal::Unequal);
     }
     Verdict::Pass
+}
+
+// The checks of a call on two strips: the first strip's 1, 2; the second's; 16. `words` and `others` are the numbers of words lent.
+pub fn check_pair(first: Handle, words: usize, second: Handle, others: usize) -> Verdict
+    ensures { λ r. ⌜ verdictOf r ≡ judge (pairLines first words second others) ⌝ }
+{
+    let one = check_strip(first, words, UNTAKEN);
+    let other = check_strip(second, others, UNTAKEN);
+    let equal = check_equal(first, second);
+    let Verdict::Pass = one else {
+        return one;
+    };
+    let Verdict::Pass = other else {
+        return other;
+    };
+    equal
 }
 
 // The checks of one that takes a position not above the length: those of two strips, then 4.
