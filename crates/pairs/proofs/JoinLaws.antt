@@ -63,13 +63,13 @@ module _ (r : ℕ → ℕ → ℕ) where
         part-select (joinedBit r ws vs) (bit z) (64 * j) 64 (64 * to) 1 k left e joined-word (omega arith) ek
         (omega (arith, rank-ones (bit z) 64 (bit-le z))) ee
 
-  -- so a function on words that joins bit by bit joins the strips: words zs, each so joined, hold the joined strip
-  pub joined-words : (ws vs zs : List ℕ) (n m : ℕ) → n ≡ m → ((j : ℕ) → JoinedWord r (getD ws j 0) (getD vs j 0) (getD zs j 0))
+  -- so a function on words that joins bit by bit joins the strips: words zs, each that has a position below n so joined, hold the joined strip
+  pub joined-words : (ws vs zs : List ℕ) (n m : ℕ) → n ≡ m → ((j : ℕ) → 64 * j < n → JoinedWord r (getD ws j 0) (getD vs j 0) (getD zs j 0))
       → stripOf zs n ≡ joined r (stripOf ws n) (stripOf vs m)
   joined-words ws vs zs n m e join =
       listOf-is (bitAt zs) n (listOf (joinedBit r ws vs) n) (length-listOf (joinedBit r ws vs) n) (λ p l.
       let at : 64 * (p / 64) + p % 64 ≡ p = omega arith in
-      joined-word ws vs (p / 64) (getD zs (p / 64) 0) (join (p / 64)) (p % 64) (omega arith)
+      joined-word ws vs (p / 64) (getD zs (p / 64) 0) (join (p / 64) (omega arith)) (p % 64) (omega arith)
       ∙ ap (joinedBit r ws vs) at
       ∙ sym (getD-listOf (joinedBit r ws vs) n p l))
       ∙ sym (joined-strip ws vs n m e)

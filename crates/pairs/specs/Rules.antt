@@ -9,7 +9,7 @@ use Rattle.words.specs.Strip.{cell}
 use Rattle.pairs.specs.declared.rule.Rule.{Rule}
 use Rattle.pairs.specs.declared.rule.Rule.the-variants.{Both, Either, OnlyFirst, Differ}
 
--- a rule joins two bits to one, and marks the stroke where it gives 1. 1 where both mark it
+-- a rule joins two bits to one: 1 where it marks the stroke, else 0. Here 1 where both mark it
 abbrev pub both : ℕ → ℕ → ℕ
 both a b = cond (eqb a 1 && eqb b 1) 1 0
 

@@ -1,6 +1,5 @@
 // The calls on two strips, each on its words alone. They ignore the bits past the length and write nothing.
 ghost use mathlib.Core.Path.{_≡_};
-ghost use lib.ListN.{length};
 ghost use Rattle.words.specs.Refusals.{judge, verdictOf, toldOf};
 ghost use Rattle.pairs.specs.Rules.{ruleOf};
 ghost use Rattle.pairs.specs.Calls.{spannedOf, codedSpan, equalTable, pairLines, pairWithinTable, pairSpanTable, pairRankTold, pairSelectTold, pairSpanTold};

@@ -1,5 +1,4 @@
 // The rules that join the bits of two strips.
-ghost use mathlib.Core.Path.{_≡_};
 ghost use Rattle.pairs.specs.Rules.{ruleOf};
 ghost use Rattle.pairs.specs.Working.{JoinedWord};
 

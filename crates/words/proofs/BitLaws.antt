@@ -87,7 +87,7 @@ ones-mod x i n h =
 pub masked-ones : (x i : ℕ) → i ≤ 64 → ones (bit (bitAnd x (2 ^ i - 1))) 64 ≡ ones (bit x) i
 masked-ones x i h = ap (λ (n : ℕ). ones (bit n) 64) (and-mask x i) ∙ ones-mod x i 64 h
 
--- so counted: a number of ones, a mask made so
+-- so for a count e of what a mask m leaves, where m is the low i bits
 pub masked-is : (x i m e : ℕ) → i ≤ 64 → m ≡ 2 ^ i - 1 → e ≡ ones (bit (bitAnd x m)) 64 → e ≡ ones (bit x) i
 masked-is x i m e l em h = h ∙ ap (λ (n : ℕ). ones (bit (bitAnd x n)) 64) em ∙ masked-ones x i l
 
