@@ -14,3 +14,5 @@ pub use rule::Rule;
 // For the layers above.
 pub use pair::check_pair;
 pub use pair::check_pair_within;
+pub use rule::join;
+pub use scan::joined_place;

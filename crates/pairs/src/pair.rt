@@ -139,7 +139,7 @@ pub fn pair_select(
             if n <= k {
                 return Answer::Refused(Refusal::NotFound);
             }
-            let p = joined_place(rule, xs, ys, (n + 63) / 64, k);
+            let p = joined_place(rule, xs, ys, 0, (n + 63) / 64, k);
             if p < n {
                 Answer::Value(p as u64)
             } else {

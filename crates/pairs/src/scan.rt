@@ -33,13 +33,14 @@ pub fn joined_ones(rule: Rule, xs: &[u64], ys: &[u64], i: usize) -> usize
     sum + ones_of(join(rule, xs[to], ys[to]) & low_mask(rest))
 }
 
-// The position of the k-th one, k from 0, of two strips joined, in their first `to` words, or the end of these words.
-pub fn joined_place(rule: Rule, xs: &[u64], ys: &[u64], to: usize, k: usize) -> usize
-    requires { ⌜ (to ≤ length (now xs)) × (to ≤ length (now ys)) × (to ≤ wordsOf mostBits) ⌝ }
-    ensures { λ r. ⌜ r ≡ placeIn (64 * to) (selectOf (joinedBit (ruleOf rule) (now (xs .entry)) (now (ys .entry))) (64 * to) 1 k) ⌝ }
+// The position of the k-th one, k from 0, from word `from` on, of two strips joined, in their first `to` words, or the end of these words.
+pub fn joined_place(rule: Rule, xs: &[u64], ys: &[u64], from: usize, to: usize, k: usize) -> usize
+    requires { ⌜ (from ≤ to) × (to ≤ length (now xs)) × (to ≤ length (now ys)) × (to ≤ wordsOf mostBits) ⌝ }
+    ensures { λ r. ⌜ r ≡ placeIn (64 * to) (selectOf (joinedBit (ruleOf rule) (now (xs .entry)) (now (ys .entry))) (64 * to) 1
+        (rankOf (joinedBit (ruleOf rule) (now (xs .entry)) (now (ys .entry))) 1 (64 * from) + k)) ⌝ }
 {
     let mut left = k;
-    let mut j: usize = 0;
+    let mut j = from;
     while j < to {
         let z = join(rule, xs[j], ys[j]);
         let ones = ones_of(z);

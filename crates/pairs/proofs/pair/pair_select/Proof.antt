@@ -5,8 +5,10 @@ use Prim.Native.Nat.{ℕ, _+_, _*_, _/_}
 use native.Mathlib.Omega.{arith}
 use borrow.Author.Needs.{needs}
 use lib.ListN.{length}
-use Rattle.words.specs.Strip.{selectOf, select}
+use Rattle.words.specs.Strip.{holds, rankOf, selectOf, select}
+use Rattle.words.specs.Words.{placeIn}
 use Rattle.words.specs.Refusals.{refused, found}
+use Rattle.words.proofs.Sums.{sum-zero}
 use Rattle.words.proofs.SearchLaws.{select-beyond, placeIn-below, placeIn-past}
 use Rattle.words.proofs.CheckLaws.{judged-pass, unless-refused, unless-passed}
 use Rattle.pairs.specs.Rules.{ruleOf}
@@ -65,13 +67,25 @@ returns-2 c =
     (found (select (joinedStrip (ruleOf (a .rule)) (a .first) (a .xs .now) (a .second) (a .ys .now)) 1 (a .k)))
     (c .before .before .before .check-pair .ensures) (c .before .r .given .1)
 
+-- the k-th from the first word on is the k-th
+place : (c : tie.After-joined-place)
+    → let a = c .before .before .before .before .before .before .before .args in
+    let m = 64 * ((a .first .length + 63) / 64) in
+    c .joined-place .result ≡ placeIn m (selectOf (joinedBit (ruleOf (a .rule)) (a .xs .now) (a .ys .now)) m 1 (a .k))
+place c =
+    let a = c .before .before .before .before .before .before .before .args in
+    let f : ℕ → ℕ = joinedBit (ruleOf (a .rule)) (a .xs .now) (a .ys .now) in
+    let m : ℕ = 64 * ((a .first .length + 63) / 64) in
+    let e : rankOf f 1 (64 * 0) + a .k ≡ a .k = omega (arith, sum-zero (holds f 1)) in
+    c .joined-place .ensures ∙ ap (λ (k : ℕ). placeIn m (selectOf f m 1 k)) e
+
 returns-3 : tie.Need-returns-3
 returns-3 c =
     let a = c .before .before .before .before .before .before .before .before .args in
     let p = c .before .joined-place in
     passed (c .before .before .before) (some (p .result))
     (placeIn-below (joinedBit (ruleOf (a .rule)) (a .xs .now) (a .ys .now)) (a .first .length) (64 * ((a .first .length + 63) / 64)) 1 (a .k) (p .result)
-    (omega arith) (p .ensures) (c .if2 .taken))
+    (omega arith) (place (c .before)) (c .if2 .taken))
 
 returns-4 : tie.Need-returns-4
 returns-4 c =
@@ -79,7 +93,7 @@ returns-4 c =
     let p = c .before .joined-place in
     passed (c .before .before .before) none
     (placeIn-past (joinedBit (ruleOf (a .rule)) (a .xs .now) (a .ys .now)) (a .first .length) (64 * ((a .first .length + 63) / 64)) 1 (a .k) (p .result)
-    (omega arith) (p .ensures) (c .if2 .left))
+    (omega arith) (place (c .before)) (c .if2 .left))
 
 pub pair-select-spec : {M : Type 1} → statement M
 pair-select-spec =

@@ -4,9 +4,8 @@ use Prim.Native.Nat.{ℕ, _+_, _-_, _*_, _≤_}
 use native.Mathlib.Nat.{le-refl}
 use native.Mathlib.Omega.{arith}
 use borrow.Author.Needs.{needs}
-use Rattle.words.specs.Strip.{holds, rankOf, selectOf}
+use Rattle.words.specs.Strip.{rankOf, selectOf}
 use Rattle.words.specs.Words.{placeIn}
-use Rattle.words.proofs.Sums.{sum-zero}
 use Rattle.words.proofs.SearchLaws.{placeIn-none}
 use Rattle.pairs.specs.Rules.{ruleOf}
 use Rattle.pairs.specs.Working.{joinedBit}
@@ -15,15 +14,15 @@ use Rattle.pairs.proofs.scan.joined_place.Statement.{statement}
 use Rattle.pairs.proofs.scan.joined_place.Tie as tie
 
 abbrev Inv-loop : tie.InvT-loop
-Inv-loop rule xs ys to k left₀ j₀ left j = (j ≤ to) × (rankOf (joinedBit (ruleOf rule) xs ys) 1 (64 * j) + left ≡ k)
+Inv-loop rule xs ys from to k left₀ j₀ left j =
+    (j ≤ to)
+    × (rankOf (joinedBit (ruleOf rule) xs ys) 1 (64 * j) + left ≡ rankOf (joinedBit (ruleOf rule) xs ys) 1 (64 * from) + k)
 
 abbrev μ-loop : tie.MeasureT-loop
-μ-loop rule xs ys to k left₀ j₀ left j = to - j
+μ-loop rule xs ys from to k left₀ j₀ left j = to - j
 
 loop-holds : tie.Need-loop-holds Inv-loop μ-loop
-loop-holds c =
-    let a = c .before .before .args in
-    omega (arith, sum-zero (holds (joinedBit (ruleOf (a .rule)) (a .xs .now) (a .ys .now)) 1))
+loop-holds c = omega arith
 
 mul-join : tie.Need-mul-join Inv-loop μ-loop
 mul-join c = omega arith
@@ -52,15 +51,17 @@ select-in-word-requires c κs = search needs
 -- the position in word j
 place : (c : tie.After-select-in-word Inv-loop μ-loop)
     → let a = c .before .before .before .before .before .before .before .before .before .before .args in
+    let f : ℕ → ℕ = joinedBit (ruleOf (a .rule)) (a .xs .now) (a .ys .now) in
     let e = c .select-in-word .result in
     (e ≤ 63)
     × (64 * c .before .before .before .before .before .before .before .loop .j + e
-    ≡ placeIn (64 * a .to) (selectOf (joinedBit (ruleOf (a .rule)) (a .xs .now) (a .ys .now)) (64 * a .to) 1 (a .k)))
+    ≡ placeIn (64 * a .to) (selectOf f (64 * a .to) 1 (rankOf f 1 (64 * a .from) + a .k)))
 place c =
     let a = c .before .before .before .before .before .before .before .before .before .before .args in
     let l = c .before .before .before .before .before .before .before .loop in
     let j = c .before .before .before .join in
-    let w = joined-word-select (ruleOf (a .rule)) (a .xs .now) (a .ys .now) (l .j) (j .result) (j .ensures) (a .to) (a .k) (l .left) (c .select-in-word .result)
+    let f : ℕ → ℕ = joinedBit (ruleOf (a .rule)) (a .xs .now) (a .ys .now) in
+    let w = joined-word-select (ruleOf (a .rule)) (a .xs .now) (a .ys .now) (l .j) (j .result) (j .ensures) (a .to) (rankOf f 1 (64 * a .from) + a .k) (l .left) (c .select-in-word .result)
     (c .before .before .before .before .before .before .loop-test .taken) (l .inv .1) (omega (arith, c .before .if1 .taken, c .before .before .ones-of .ensures))
     (c .select-in-word .ensures) in
     (omega (arith, w .0), w .1)
@@ -96,7 +97,7 @@ returns-2 c =
     let l = c .before .loop in
     let f : ℕ → ℕ = joinedBit (ruleOf (a .rule)) (a .xs .now) (a .ys .now) in
     let e : 64 * l .j ≡ 64 * a .to = omega arith in
-    sym (placeIn-none f (64 * a .to) 1 (a .k) (omega (arith, l .inv .1, ap (rankOf f 1) e)))
+    sym (placeIn-none f (64 * a .to) 1 (rankOf f 1 (64 * a .from) + a .k) (omega (arith, l .inv .1, ap (rankOf f 1) e)))
 
 pub joined-place-spec : {M : Type 1} → statement M
 joined-place-spec =
