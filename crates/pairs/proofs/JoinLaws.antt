@@ -3,7 +3,7 @@
 use mathlib.Core.Path.{_≡_, refl, sym, ap, ap₂, _∙_}
 use mathlib.Core.List.{List}
 use Prim.Native.Nat.{ℕ, zero, suc, min, max, _+_, _-_, _*_, _/_, _%_, _^_, _≤_, _<_}
-use native.Mathlib.Nat.{add-sub-of-le}
+use native.Mathlib.Nat.{add-sub-of-le, le-refl}
 use native.Mathlib.Omega.{arith}
 use lib.ListN.{length, getD}
 use lib.Bits.{bitAnd, bitOr, bitXor}
@@ -55,6 +55,18 @@ module _ (r : ℕ → ℕ → ℕ) where
     joined-word-ones m l =
         ap (λ (c : ℕ). rankOf (joinedBit r ws vs) 1 (64 * j) + c) (sym (rank-ones (bit z) m (bit-le z)))
         ∙ sym (rank-part (joinedBit r ws vs) (bit z) (64 * j) 64 1 m joined-word l)
+
+    -- all of them: the ones before the next word
+    pub joined-next : rankOf (joinedBit r ws vs) 1 (64 * j) + ones (bit z) 64 ≡ rankOf (joinedBit r ws vs) 1 (64 * (j + 1))
+    joined-next =
+        let e : 64 * j + 64 ≡ 64 * (j + 1) = omega arith in
+        joined-word-ones 64 (le-refl 64) ∙ ap (rankOf (joinedBit r ws vs) 1) e
+
+    -- those of the word that position i lies in: the ones before i
+    pub joined-last : (i : ℕ) → j ≡ i / 64 → rankOf (joinedBit r ws vs) 1 (64 * j) + ones (bit z) (i % 64) ≡ rankOf (joinedBit r ws vs) 1 i
+    joined-last i l =
+        let e : 64 * j + i % 64 ≡ i = omega arith in
+        joined-word-ones (i % 64) (omega arith) ∙ ap (rankOf (joinedBit r ws vs) 1) e
 
     -- the k-th one lies in that word
     pub joined-word-select : (to k left e : ℕ) → j < to → rankOf (joinedBit r ws vs) 1 (64 * j) + left ≡ k → left < ones (bit z) 64 → e ≡ selectIn 64 z 1 left

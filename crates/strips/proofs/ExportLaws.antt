@@ -9,17 +9,7 @@ use borrow.Author.Tests.{lt-ltb, le-ltb}
 use Rattle.words.specs.declared.handle.Handle.{Handle}
 use Rattle.words.specs.Refusals.{Told, coded, CodedAs}
 use Rattle.counters.specs.Promises.{ChangedTold, Outcome, outcome}
-use Rattle.strips.specs.Exports.{five, changedFive, fiveOver, lent, lentAfter, reported, Reported}
-
--- five stores at the front
-pub set-five : (os : List ℕ) (n x y : ℕ) (h : Handle) → 5 ≤ length os
-    → set (set (set (set (set os 0 n) 1 x) 2 y) 3 (h .capacity)) 4 (h .length) ≡ fiveOver (five n x y h) os
-set-five (a ∷ b ∷ c ∷ d ∷ e ∷ os) n x y h le = refl
-set-five [] n x y h le = absurd (omega arith)
-set-five (a ∷ []) n x y h le = absurd (omega arith)
-set-five (a ∷ b ∷ []) n x y h le = absurd (omega arith)
-set-five (a ∷ b ∷ c ∷ []) n x y h le = absurd (omega arith)
-set-five (a ∷ b ∷ c ∷ d ∷ []) n x y h le = absurd (omega arith)
+use Rattle.strips.specs.Exports.{five, changedFive, fiveOver, numbersOver, lent, lentAfter, reported, Reported, Written}
 
 -- a reading, under the handle made of the two numbers
 pub coded-as : (P : Handle → Told → Type 0) (g h : Handle) (t : Told) (r : ℕ) → g ≡ h → P g t → r ≡ coded t → CodedAs (P h) r
@@ -48,4 +38,17 @@ some-ran P g h ws cs os vs ds es t e le p w =
     record {
       idle = (λ l. absurd (omega arith));
       ran = (λ l. record { outcome = outcome t vs ds; holds = subst (λ (k : Handle). P k (outcome t vs ds)) e p; same = ap (lent vs ds) w });
+    }
+
+-- a reading that writes n numbers: too short an `out`
+pub written-idle : {A : Type 0} (n : ℕ) (numbers : A → List ℕ) (P : A → Type 0) (os : List ℕ) → length os < n → Written n numbers P os os
+written-idle n numbers P os l = record { idle = (λ h. refl); ran = (λ h. absurd (omega arith)) }
+
+-- and run, under the handles made of the numbers of two strips
+pub written-ran : {A : Type 0} (n : ℕ) (numbers : A → List ℕ) (P : Handle → Handle → A → Type 0) (g h k m : Handle) (os es : List ℕ) (t : A)
+    → g ≡ h → k ≡ m → n ≤ length os → P g k t → es ≡ numbersOver n (numbers t) os → Written n numbers (P h m) os es
+written-ran n numbers P g h k m os es t e f le p w =
+    record {
+      idle = (λ l. absurd (omega arith));
+      ran = (λ l. record { told = t; holds = subst (λ (x : Handle). P h x t) f (subst (λ (x : Handle). P x k t) e p); same = w });
     }

@@ -8,6 +8,7 @@ use lib.Dec.{ltb}
 use Rattle.words.specs.declared.handle.Handle.{Handle}
 use Rattle.words.specs.Handles.{handle}
 use Rattle.counters.specs.Promises.{CreatedTold, created, uncreated, ChangedTold, done, kept, Outcome}
+use Rattle.waiting.specs.Calls.{RankTold, leastMost, unranked, SelectTold, fromTo, fromOn, unselected}
 
 -- five numbers: refusal or 0, first value, second value or 0, capacity and length of the handle to go on with
 abbrev pub five : ℕ → ℕ → ℕ → Handle → List ℕ
@@ -22,9 +23,13 @@ abbrev pub createdFive : CreatedTold → List ℕ
 createdFive (created h x) = five 0 x 0 h
 createdFive (uncreated n) = five n 0 0 (handle 0 0)
 
--- the first five numbers of `out` are xs, those past the fifth stay
+-- the first n numbers of `out` are xs, those past them stay
+abbrev pub numbersOver : ℕ → List ℕ → List ℕ → List ℕ
+numbersOver n xs out = xs ++ drop n out
+
+-- five numbers
 abbrev pub fiveOver : List ℕ → List ℕ → List ℕ
-fiveOver xs out = xs ++ drop 5 out
+fiveOver = numbersOver 5
 
 -- the three lent buffers
 pub record Lent : Type 0 where
@@ -56,3 +61,25 @@ pub record ChangeRan (P : Outcome ChangedTold → Type 0) (os : List ℕ) (l : L
 pub record Reported (P : Outcome ChangedTold → Type 0) (ws cs os : List ℕ) (l : Lent) : Type 0 where
   pub idle : length os < 5 → l ≡ lent ws cs os
   pub ran : 5 ≤ length os → ChangeRan P os l
+
+-- the three numbers of a waiting count: refusal or 0, the least, the most
+abbrev pub rankNumbers : RankTold → List ℕ
+rankNumbers (leastMost a b) = 0 ∷ a ∷ b ∷ []
+rankNumbers (unranked n) = n ∷ 0 ∷ 0 ∷ []
+
+-- the four of a waiting find: refusal or 0, the earliest, 1 where every outcome has such a stroke or else 0, the latest or 0
+abbrev pub selectNumbers : SelectTold → List ℕ
+selectNumbers (fromTo a b) = 0 ∷ a ∷ 1 ∷ b ∷ []
+selectNumbers (fromOn a) = 0 ∷ a ∷ 0 ∷ 0 ∷ []
+selectNumbers (unselected n) = n ∷ 0 ∷ 0 ∷ 0 ∷ []
+
+-- `out` becomes es: the n numbers of something told of which P holds stand in front
+pub record ReadingRan {A : Type 0} (n : ℕ) (numbers : A → List ℕ) (P : A → Type 0) (os es : List ℕ) : Type 0 where
+  pub told : A
+  pub holds : P told
+  pub same : es ≡ numbersOver n (numbers told) os
+
+-- a reading that writes n numbers; with a shorter `out` it does nothing
+pub record Written {A : Type 0} (n : ℕ) (numbers : A → List ℕ) (P : A → Type 0) (os es : List ℕ) : Type 0 where
+  pub idle : length os < n → es ≡ os
+  pub ran : n ≤ length os → ReadingRan n numbers P os es

@@ -1,8 +1,9 @@
-// What libstrips.a exports: the seventeen calls and those on two strips for C, one function each, and the queries of sizes and rows.
+// What libstrips.a exports: the seventeen calls, those on two strips and the waiting calls for C, one function each, and the queries of sizes and rows.
 mod images;
 mod pair;
 mod record;
 mod strip;
+mod wait;
 
 // Open to users: no `requires`, and a promise for every input.
 pub use images::image_clear;
@@ -32,6 +33,8 @@ pub use strip::strip_counter_count;
 pub use strip::strip_get;
 pub use strip::strip_predecessor;
 pub use strip::strip_successor;
+pub use wait::strip_waiting_count;
+pub use wait::strip_waiting_find;
 
 // For the exports of tests.
 pub use record::write_five;

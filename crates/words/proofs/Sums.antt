@@ -43,6 +43,11 @@ unfolding sumTo
 sum-ext f g zero h = refl
 sum-ext f g (suc n) h = ap₂ (λ (x y : ℕ). x + y) (sum-ext f g n (λ p l. h p (omega arith))) (h n (lt-suc-self n))
 
+-- no term larger: no larger a sum
+pub sum-le : (f g : ℕ → ℕ) (n : ℕ) → ((p : ℕ) → p < n → f p ≤ g p) → sumTo f n ≤ sumTo g n
+sum-le f g zero h = omega (arith, sum-zero f)
+sum-le f g (suc n) h = omega (arith, sum-suc f n, sum-suc g n, sum-le f g n (λ p l. h p (omega arith)), h n (lt-suc-self n))
+
 -- more positions, no smaller a sum
 pub sum-mono : (f : ℕ → ℕ) {a b : ℕ} → a ≤ b → sumTo f a ≤ sumTo f b
 sum-mono f {a} {b} h =

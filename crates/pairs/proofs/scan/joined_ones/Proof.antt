@@ -1,7 +1,6 @@
 -- `pairs::scan::joined_ones` meets its contract. The invariant: `sum` is the ones joined before word j. Assumes nothing.
-use mathlib.Core.Path.{_≡_, ap, _∙_}
+use mathlib.Core.Path.{_≡_, refl, ap, _∙_}
 use Prim.Native.Nat.{ℕ, _+_, _-_, _*_, _/_, _%_, _≤_}
-use native.Mathlib.Nat.{le-refl}
 use native.Mathlib.Omega.{arith}
 use borrow.Author.Needs.{needs}
 use Rattle.words.specs.Strip.{holds, rankOf}
@@ -10,7 +9,7 @@ use Rattle.words.proofs.BitLaws.{masked-is}
 use Rattle.words.proofs.SearchLaws.{rank-le}
 use Rattle.pairs.specs.Rules.{ruleOf}
 use Rattle.pairs.specs.Working.{joinedBit}
-use Rattle.pairs.proofs.JoinLaws.{joined-word-ones}
+use Rattle.pairs.proofs.JoinLaws.{joined-next, joined-last}
 use Rattle.pairs.proofs.scan.joined_ones.Statement.{statement}
 use Rattle.pairs.proofs.scan.joined_ones.Tie as tie
 
@@ -51,10 +50,8 @@ next : (c : tie.After-ones-of Inv-loop μ-loop)
 next c =
     let a = c .before .before .before .before .before .before .before .before .args in
     let l = c .before .before .before .before .before .loop in
-    let f : ℕ → ℕ = joinedBit (ruleOf (a .rule)) (a .xs .now) (a .ys .now) in
-    let e : 64 * l .j + 64 ≡ 64 * (l .j + 1) = omega arith in
-    let w = joined-word-ones (ruleOf (a .rule)) (a .xs .now) (a .ys .now) (l .j) (c .before .join .result) (c .before .join .ensures) 64 (le-refl 64) in
-    omega (arith, w, ap (rankOf f 1) e, c .ones-of .ensures, l .inv .1)
+    let w = joined-next (ruleOf (a .rule)) (a .xs .now) (a .ys .now) (l .j) (c .before .join .result) (c .before .join .ensures) in
+    omega (arith, w, c .ones-of .ensures, l .inv .1)
 
 add-sum : tie.Need-add-sum Inv-loop μ-loop
 add-sum c =
@@ -109,10 +106,9 @@ last c =
     let f : ℕ → ℕ = joinedBit (ruleOf (a .rule)) (a .xs .now) (a .ys .now) in
     let z : ℕ = c .before .before .join2 .result in
     let low = masked-is z (a .i % 64) (c .before .low-mask .result) (c .ones-of2 .result) (omega arith) (c .before .low-mask .ensures) (c .ones-of2 .ensures) in
-    let w = joined-word-ones (ruleOf (a .rule)) (a .xs .now) (a .ys .now) (a .i / 64) z (c .before .before .join2 .ensures) (a .i % 64) (omega arith) in
-    let e : 64 * (a .i / 64) + a .i % 64 ≡ a .i = omega arith in
+    let w = joined-last (ruleOf (a .rule)) (a .xs .now) (a .ys .now) (a .i / 64) z (c .before .before .join2 .ensures) (a .i) refl in
     let at : 64 * l .j ≡ 64 * (a .i / 64) = omega arith in
-    omega (arith, l .inv .1, low, w, ap (rankOf f 1) e, ap (rankOf f 1) at)
+    omega (arith, l .inv .1, low, w, ap (rankOf f 1) at)
 
 add-result : tie.Need-add-result Inv-loop μ-loop
 add-result c =

@@ -1,7 +1,6 @@
 -- `pairs::scan::joined_place` meets its contract. The invariant: the words before j are passed, and `left` of the k remain. Assumes nothing.
 use mathlib.Core.Path.{_≡_, sym, ap}
 use Prim.Native.Nat.{ℕ, _+_, _-_, _*_, _≤_}
-use native.Mathlib.Nat.{le-refl}
 use native.Mathlib.Omega.{arith}
 use borrow.Author.Needs.{needs}
 use Rattle.words.specs.Strip.{rankOf, selectOf}
@@ -9,7 +8,7 @@ use Rattle.words.specs.Words.{placeIn}
 use Rattle.words.proofs.SearchLaws.{placeIn-none}
 use Rattle.pairs.specs.Rules.{ruleOf}
 use Rattle.pairs.specs.Working.{joinedBit}
-use Rattle.pairs.proofs.JoinLaws.{joined-word-ones, joined-word-select}
+use Rattle.pairs.proofs.JoinLaws.{joined-next, joined-word-select}
 use Rattle.pairs.proofs.scan.joined_place.Statement.{statement}
 use Rattle.pairs.proofs.scan.joined_place.Tie as tie
 
@@ -83,10 +82,8 @@ loop-again c =
     let a = c .before .before .before .before .before .before .before .before .before .args in
     let l = c .before .before .before .before .before .before .loop in
     let j = c .before .before .join in
-    let e : 64 * l .j + 64 ≡ 64 * (l .j + 1) = omega arith in
-    let w = joined-word-ones (ruleOf (a .rule)) (a .xs .now) (a .ys .now) (l .j) (j .result) (j .ensures) 64 (le-refl 64) in
-    let at = ap (rankOf (joinedBit (ruleOf (a .rule)) (a .xs .now) (a .ys .now)) 1) e in
-    (omega arith, omega (arith, l .inv .1, w, at, c .before .ones-of .ensures))
+    let w = joined-next (ruleOf (a .rule)) (a .xs .now) (a .ys .now) (l .j) (j .result) (j .ensures) in
+    (omega arith, omega (arith, l .inv .1, w, c .before .ones-of .ensures))
 
 mul-result-2 : tie.Need-mul-result-2 Inv-loop μ-loop
 mul-result-2 c = omega arith

@@ -2,7 +2,8 @@
 use native.Mathlib.Omega.{arith}
 use borrow.Author.Needs.{needs}
 use lib.ListN.{length-set}
-use Rattle.strips.proofs.ExportLaws.{set-five}
+use Rattle.image.proofs.PutLaws.{sets-front}
+use Rattle.strips.specs.Exports.{five}
 use Rattle.strips.proofs.record.write_five.Statement.{statement}
 use Rattle.strips.proofs.record.write_five.Tie as tie
 
@@ -25,7 +26,7 @@ same-length : tie.Need-same-length
 same-length c = search needs
 
 returns : tie.Need-returns
-returns c = set-five (c .args .out .now) (c .args .refusal) (c .args .x) (c .args .y) (c .args .h) (c .pre)
+returns c = sets-front (five (c .args .refusal) (c .args .x) (c .args .y) (c .args .h)) (c .args .out .now) (c .pre)
 
 pub write-five-spec : {M : Type 1} → statement M
 write-five-spec =

@@ -1,0 +1,3 @@
+pub mod OrderLaws
+pub mod OutcomeLaws
+pub mod CallLaws
