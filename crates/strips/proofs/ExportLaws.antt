@@ -1,15 +1,15 @@
 -- The laws of what the exported calls give. Assumes nothing.
 use mathlib.Core.Path.{_≡_, refl, sym, ap, _∙_, subst}
 use mathlib.Core.Bool.{Bool, cond}
-use mathlib.Core.List.{List, [], _∷_}
+use mathlib.Core.List.{List}
 use Prim.Native.Nat.{ℕ, _≤_, _<_}
 use native.Mathlib.Omega.{arith}
-use lib.ListN.{length, set}
+use lib.ListN.{length}
 use borrow.Author.Tests.{lt-ltb, le-ltb}
 use Rattle.words.specs.declared.handle.Handle.{Handle}
 use Rattle.words.specs.Refusals.{Told, coded, CodedAs}
 use Rattle.counters.specs.Promises.{ChangedTold, Outcome, outcome}
-use Rattle.strips.specs.Exports.{five, changedFive, fiveOver, numbersOver, lent, lentAfter, reported, Reported, Written}
+use Rattle.strips.specs.Exports.{changedFive, fiveOver, numbersOver, lent, lentAfter, reported, Reported, Written}
 
 -- a reading, under the handle made of the two numbers
 pub coded-as : (P : Handle → Told → Type 0) (g h : Handle) (t : Told) (r : ℕ) → g ≡ h → P g t → r ≡ coded t → CodedAs (P h) r

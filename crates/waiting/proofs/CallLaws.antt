@@ -4,6 +4,8 @@ use mathlib.Core.List.{List}
 use mathlib.Core.Option.{Option, some, none}
 use Prim.Native.Nat.{ℕ, _*_, _≤_, _<_}
 use native.Mathlib.Omega.{arith}
+use lib.ListN.{length}
+use Rattle.words.specs.declared.handle.Handle.{Handle}
 use Rattle.words.specs.declared.refusal.Refusal.{Refusal}
 use Rattle.words.specs.declared.refusal.Verdict.{Verdict}
 use Rattle.words.specs.declared.refusal.Verdict.the-variants.{Pass, Refuse}
@@ -13,10 +15,11 @@ use Rattle.words.proofs.CheckLaws.{not-both, judged-refuse, judged-pass}
 use Rattle.words.proofs.SearchLaws.{select-beyond, placeIn-below, placeIn-past}
 use Rattle.words.proofs.StripLaws.{strip-length, strip-le}
 use Rattle.pairs.specs.Rules.{either, onlyFirst, joined}
+use Rattle.pairs.specs.Calls.{pairLines, pairWithinTable}
 use Rattle.pairs.proofs.JoinLaws.{joined-rank, joined-select}
 use Rattle.waiting.specs.Outcomes.{Outcome, Reached, RankRange, Earliest, Latest, SomeLacks, AllLack, NoneLacks}
-use Rattle.waiting.specs.Calls.{RankTold, leastMost, unranked, SelectTold, fromTo, fromOn, unselected, RightRank, RightSelect, Judged}
-use Rattle.waiting.specs.Working.{sureBit, openBit, placeOf}
+use Rattle.waiting.specs.Calls.{RankTold, leastMost, unranked, SelectTold, fromTo, fromOn, unselected, RightRank, RightSelect, Judged, WaitingRank, WaitingSelect}
+use Rattle.waiting.specs.Working.{mustBit, mayBit, placeOf}
 use Rattle.waiting.proofs.OutcomeLaws.{same-place, rank-range, select-earliest, select-latest, select-lacking, select-none}
 
 -- where at most one answer is right, at most one is given: for any table
@@ -74,6 +77,21 @@ module _ (s t : List ℕ) where
     select-unique (unselected n) (fromOn c) x y = some-all c (y .1) (x .0)
     select-unique (unselected n) (unselected m) x y = ap unselected (x .1 ∙ sym (y .1))
 
+-- at most one answer is right for each input
+pub waiting-rank-unique : (strip waiting : Handle) (ws vs : List ℕ) (i : ℕ) (x y : RankTold)
+    → WaitingRank strip ws waiting vs i x → WaitingRank strip ws waiting vs i y → x ≡ y
+waiting-rank-unique strip waiting ws vs i x y =
+    let s = stripOf ws (strip .length) in
+    let t = stripOf vs (waiting .length) in
+    judged-unique (pairWithinTable strip (length ws) waiting (length vs) i) unranked (RightRank s t i) x y (rank-unique s t i)
+
+pub waiting-select-unique : (strip waiting : Handle) (ws vs : List ℕ) (k : ℕ) (x y : SelectTold)
+    → WaitingSelect strip ws waiting vs k x → WaitingSelect strip ws waiting vs k y → x ≡ y
+waiting-select-unique strip waiting ws vs k x y =
+    let s = stripOf ws (strip .length) in
+    let t = stripOf vs (waiting .length) in
+    judged-unique (pairLines strip (length ws) waiting (length vs)) unselected (RightSelect s t k) x y (select-unique s t k)
+
 -- ---- an answer by the verdict on its table
 module _ {A : Type 0} (table : List Line) (v : Verdict) (refuse : ℕ → A) (Right : A → Type 0) (e : verdictOf v ≡ judge table) where
   pub judged-refused : (r : Refusal) → v ≡ Refuse r → Judged table refuse Right (refuse (numberOf r))
@@ -86,7 +104,7 @@ module _ {A : Type 0} (table : List Line) (v : Verdict) (refuse : ℕ → A) (Ri
 
 -- ---- what is right of strips of one length in words
 module _ (ws vs : List ℕ) (n m : ℕ) (e : n ≡ m) where
-  pub rank-right : (i least most : ℕ) → i ≤ n → least ≡ rankOf (sureBit ws vs) 1 i → most ≡ rankOf (openBit ws vs) 1 i
+  pub rank-right : (i least most : ℕ) → i ≤ n → least ≡ rankOf (mustBit ws vs) 1 i → most ≡ rankOf (mayBit ws vs) 1 i
       → RightRank (stripOf ws n) (stripOf vs m) i (leastMost least most)
   rank-right i least most h a b =
       let w = rank-range (stripOf ws n) (stripOf vs m) (strip-le ws n) (strip-le vs m) i (omega (arith, strip-length ws n)) in
@@ -97,39 +115,39 @@ module _ (ws vs : List ℕ) (n m : ℕ) (e : n ≡ m) where
 
   module _ (k : ℕ) where
     -- what is found in the words is found in the strips joined
-    opened : (o : Option ℕ) → selectOf (openBit ws vs) n 1 k ≡ o → select (joined either (stripOf ws n) (stripOf vs m)) 1 k ≡ o
-    opened o h = joined-select either ws vs n m k e ∙ h
+    may-found : (o : Option ℕ) → selectOf (mayBit ws vs) n 1 k ≡ o → select (joined either (stripOf ws n) (stripOf vs m)) 1 k ≡ o
+    may-found o h = joined-select either ws vs n m k e ∙ h
 
-    sured : (o : Option ℕ) → selectOf (sureBit ws vs) n 1 k ≡ o → select (joined onlyFirst (stripOf ws n) (stripOf vs m)) 1 k ≡ o
-    sured o h = joined-select onlyFirst ws vs n m k e ∙ h
+    must-found : (o : Option ℕ) → selectOf (mustBit ws vs) n 1 k ≡ o → select (joined onlyFirst (stripOf ws n) (stripOf vs m)) 1 k ≡ o
+    must-found o h = joined-select onlyFirst ws vs n m k e ∙ h
 
     -- k not below the length
     pub right-beyond : n ≤ k → RightSelect (stripOf ws n) (stripOf vs m) k (unselected 6)
     right-beyond h =
-        (select-none (stripOf ws n) (stripOf vs m) (strip-le ws n) (strip-le vs m) k (opened none (select-beyond (openBit ws vs) n 1 k h)), refl)
+        (select-none (stripOf ws n) (stripOf vs m) (strip-le ws n) (strip-le vs m) k (may-found none (select-beyond (mayBit ws vs) n 1 k h)), refl)
 
     -- the places a and b in `to` words that hold the length
-    module _ (to a b : ℕ) (long : n ≤ 64 * to) (ea : a ≡ placeOf (openBit ws vs) to k) (eb : b ≡ placeOf (sureBit ws vs) to k) where
+    module _ (to a b : ℕ) (long : n ≤ 64 * to) (ea : a ≡ placeOf (mayBit ws vs) to k) (eb : b ≡ placeOf (mustBit ws vs) to k) where
       first : a < n → Earliest (stripOf ws n) (stripOf vs m) k a
       first l =
           select-earliest (stripOf ws n) (stripOf vs m) (strip-le ws n) (strip-le vs m) k a
-          (opened (some a) (placeIn-below (openBit ws vs) n (64 * to) 1 k a long ea l))
+          (may-found (some a) (placeIn-below (mayBit ws vs) n (64 * to) 1 k a long ea l))
 
       pub right-none : n ≤ a → RightSelect (stripOf ws n) (stripOf vs m) k (unselected 6)
       right-none l = (
-        select-none (stripOf ws n) (stripOf vs m) (strip-le ws n) (strip-le vs m) k (opened none (placeIn-past (openBit ws vs) n (64 * to) 1 k a long ea l)),
+        select-none (stripOf ws n) (stripOf vs m) (strip-le ws n) (strip-le vs m) k (may-found none (placeIn-past (mayBit ws vs) n (64 * to) 1 k a long ea l)),
         refl,
       )
 
       pub right-to : a < n → b < n → RightSelect (stripOf ws n) (stripOf vs m) k (fromTo a b)
       right-to l r =
           let w = select-latest (stripOf ws n) (stripOf vs m) (strip-le ws n) (strip-le vs m) k b
-          (sured (some b) (placeIn-below (sureBit ws vs) n (64 * to) 1 k b long eb r)) in
+          (must-found (some b) (placeIn-below (mustBit ws vs) n (64 * to) 1 k b long eb r)) in
           (w .0, first l, w .1)
 
       pub right-on : a < n → n ≤ b → RightSelect (stripOf ws n) (stripOf vs m) k (fromOn a)
       right-on l r = (
         select-lacking (stripOf ws n) (stripOf vs m) (strip-le ws n) (strip-le vs m) k
-            (sured none (placeIn-past (sureBit ws vs) n (64 * to) 1 k b long eb r)),
+            (must-found none (placeIn-past (mustBit ws vs) n (64 * to) 1 k b long eb r)),
         first l,
       )

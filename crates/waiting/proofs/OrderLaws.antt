@@ -1,7 +1,7 @@
 -- Strips in order, cell by cell: a strip with more ones counts no fewer before any position, and has its k-th one no later. Assumes nothing.
 use mathlib.Core.Path.{_≡_, refl}
 use mathlib.Core.Option.{Option, some, none}
-use Prim.Native.Nat.{ℕ, suc, _+_, _≤_, _<_}
+use Prim.Native.Nat.{ℕ, suc, _≤_, _<_}
 use native.Mathlib.Omega.{arith}
 use Rattle.words.specs.Strip.{holds, rankOf, selectOf}
 use Rattle.words.proofs.Sums.{sum-suc, sum-le}

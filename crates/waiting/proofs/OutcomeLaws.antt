@@ -1,14 +1,14 @@
--- The outcomes, cell by cell: the strips between the sure one (one and not marked) and the open one (one or marked); so the sure one has the least before
--- every position, the open one the most, and every number between is reached; and the same of finding. Assumes nothing.
+-- The outcomes, cell by cell: the strips between the misfires that must be (one and not marked) and those that may be (one or marked). So these give the least
+-- and the most before every position, with every number between reached, and the latest and the earliest position of the k-th. Assumes nothing.
 use mathlib.Core.Path.{_≡_, refl, sym, ap, _∙_}
-use mathlib.Core.Bool.{Bool, true, false, cond, not, _&&_, _||_}
+use mathlib.Core.Bool.{Bool, cond}
 use mathlib.Core.List.{List}
 use mathlib.Core.Logic.{_⊎_, inl, inr}
 use mathlib.Core.Option.{Option, some, none}
 use Prim.Native.Nat.{ℕ, zero, suc, min, _+_, _≤_, _<_}
-use native.Mathlib.Nat.{le-refl, lt-suc-self}
+use native.Mathlib.Nat.{le-refl}
 use native.Mathlib.Omega.{arith}
-use lib.Dec.{eqb, ltb}
+use lib.Dec.{ltb}
 use lib.ListN.{length}
 use lib.Seq.{ext-getD}
 use borrow.Author.Tests.{lt-ltb, le-ltb}
@@ -21,8 +21,7 @@ use Rattle.words.proofs.SearchLaws.{rank-ones}
 use Rattle.words.proofs.StripLaws.{listed-rank, listed-select}
 use Rattle.pairs.specs.Rules.{either, onlyFirst, joined}
 use Rattle.waiting.specs.Outcomes.{Outcome, Reached, RankRange, Earliest, Latest, SomeLacks, AllLack, NoneLacks}
-use Rattle.waiting.specs.Calls.{fromTo, fromOn, unselected, RightSelect}
-use Rattle.waiting.specs.Working.{sureBit, openBit}
+use Rattle.waiting.specs.Working.{mustBit, mayBit}
 use Rattle.waiting.proofs.OrderLaws.{Under, rank-under, select-under, none-under}
 
 -- ---- what the definition says at its ends
@@ -66,24 +65,24 @@ same-place r p q e f = let h : _≡_ {A = Option ℕ} (some p) (some q) = sym e 
 -- ---- a strip s and its waiting strip t
 module _ (s t : List ℕ) (sBits : (p : ℕ) → cell s p ≤ 1) (tBits : (p : ℕ) → cell t p ≤ 1) where
   -- cell p where no mark becomes a one, and where every mark does
-  abbrev sure : ℕ → ℕ
-  sure p = onlyFirst (cell s p) (cell t p)
+  abbrev must : ℕ → ℕ
+  must p = onlyFirst (cell s p) (cell t p)
 
-  abbrev maybe : ℕ → ℕ
-  maybe p = either (cell s p) (cell t p)
+  abbrev may : ℕ → ℕ
+  may p = either (cell s p) (cell t p)
 
   at : (p : ℕ) → Stroke (cell s p) (cell t p)
   at p = stroke (cell s p) (cell t p) (sBits p) (tBits p)
 
   -- an outcome lies between them, cell by cell
-  pub over-sure : (o : List ℕ) → Outcome s t o → Under sure (cell o) (length s)
-  over-sure o u = record { le = (λ p l. at p .outcome (cell o p) (u .bits p l) (u .agrees p l) .0); bits = u .bits }
+  pub over-must : (o : List ℕ) → Outcome s t o → Under must (cell o) (length s)
+  over-must o u = record { le = (λ p l. at p .outcome (cell o p) (u .bits p l) (u .agrees p l) .0); bits = u .bits }
 
-  pub under-maybe : (o : List ℕ) → Outcome s t o → Under (cell o) maybe (length s)
-  under-maybe o u = record { le = (λ p l. at p .outcome (cell o p) (u .bits p l) (u .agrees p l) .1); bits = (λ p l. at p .most) }
+  pub under-may : (o : List ℕ) → Outcome s t o → Under (cell o) may (length s)
+  under-may o u = record { le = (λ p l. at p .outcome (cell o p) (u .bits p l) (u .agrees p l) .1); bits = (λ p l. at p .most) }
 
   -- and cells between them are those of an outcome
-  pub outcome-of : (f : ℕ → ℕ) → ((p : ℕ) → (sure p ≤ f p) × (f p ≤ maybe p)) → Outcome s t (listOf f (length s))
+  pub outcome-of : (f : ℕ → ℕ) → ((p : ℕ) → (must p ≤ f p) × (f p ≤ may p)) → Outcome s t (listOf f (length s))
   outcome-of f h =
       record {
         long = length-listOf f (length s);
@@ -91,11 +90,11 @@ module _ (s t : List ℕ) (sBits : (p : ℕ) → cell s p ≤ 1) (tBits : (p : �
         agrees = (λ p l e. let m = at p .unmarked e in getD-listOf f (length s) p l ∙ omega (arith, h p .0, h p .1, m .0, m .1));
       }
 
-  pub sure-outcome : Outcome s t (joined onlyFirst s t)
-  sure-outcome = outcome-of sure (λ p. (le-refl (sure p), at p .range))
+  pub must-outcome : Outcome s t (joined onlyFirst s t)
+  must-outcome = outcome-of must (λ p. (le-refl (must p), at p .range))
 
-  pub maybe-outcome : Outcome s t (joined either s t)
-  maybe-outcome = outcome-of maybe (λ p. (at p .range, le-refl (maybe p)))
+  pub may-outcome : Outcome s t (joined either s t)
+  may-outcome = outcome-of may (λ p. (at p .range, le-refl (may p)))
 
   -- ---- counting before i
   module _ (i : ℕ) (h : i ≤ length s) where
@@ -105,63 +104,63 @@ module _ (s t : List ℕ) (sBits : (p : ℕ) → cell s p ≤ 1) (tBits : (p : �
 
     -- marks before position m become ones, those from m on do not
     abbrev mixed : ℕ → ℕ → ℕ
-    mixed m p = cond (ltb p m) (maybe p) (sure p)
+    mixed m p = cond (ltb p m) (may p) (must p)
 
-    mixed-low : (m p : ℕ) → p < m → mixed m p ≡ maybe p
-    mixed-low m p l = ap (λ (b : Bool). cond b (maybe p) (sure p)) (lt-ltb p m l)
+    mixed-low : (m p : ℕ) → p < m → mixed m p ≡ may p
+    mixed-low m p l = ap (λ (b : Bool). cond b (may p) (must p)) (lt-ltb p m l)
 
-    mixed-high : (m p : ℕ) → m ≤ p → mixed m p ≡ sure p
-    mixed-high m p l = ap (λ (b : Bool). cond b (maybe p) (sure p)) (le-ltb p m l)
+    mixed-high : (m p : ℕ) → m ≤ p → mixed m p ≡ must p
+    mixed-high m p l = ap (λ (b : Bool). cond b (may p) (must p)) (le-ltb p m l)
 
     mixed-outcome : (m : ℕ) → Outcome s t (listOf (mixed m) (length s))
     mixed-outcome m = outcome-of (mixed m) (λ p. go p (lt-or p m))
       where
-        go : (p : ℕ) → (p < m) ⊎ (m ≤ p) → (sure p ≤ mixed m p) × (mixed m p ≤ maybe p)
+        go : (p : ℕ) → (p < m) ⊎ (m ≤ p) → (must p ≤ mixed m p) × (mixed m p ≤ may p)
         go p (inl l) = omega (arith, mixed-low m p l, at p .range)
         go p (inr l) = omega (arith, mixed-high m p l, at p .range)
 
     -- its count: from the least on it grows by at most one with each m
-    mixed-rank : (m : ℕ) → m ≤ i → rank (listOf (mixed m) (length s)) 1 i + ones sure m ≡ ones sure i + ones maybe m
+    mixed-rank : (m : ℕ) → m ≤ i → rank (listOf (mixed m) (length s)) 1 i + ones must m ≡ ones must i + ones may m
     mixed-rank m l =
-        let o = sum-outside (mixed m) sure 0 m i Prim.Native.Nat.zero-le l (λ p q. absurd (omega arith)) (λ p q r. mixed-high m p q) in
-        omega (arith, listed-rank (mixed m) (length s) 1 i h, rank-ones (mixed m) i (λ p. bits m p (lt-or p m)), o .0, sum-ext (mixed m) maybe m (λ p q. mixed-low m p q))
+        let o = sum-outside (mixed m) must 0 m i Prim.Native.Nat.zero-le l (λ p q. absurd (omega arith)) (λ p q r. mixed-high m p q) in
+        omega (arith, listed-rank (mixed m) (length s) 1 i h, rank-ones (mixed m) i (λ p. bits m p (lt-or p m)), o .0, sum-ext (mixed m) may m (λ p q. mixed-low m p q))
       where
         bits : (m p : ℕ) → (p < m) ⊎ (m ≤ p) → mixed m p ≤ 1
         bits m p (inl q) = omega (arith, mixed-low m p q, at p .most)
         bits m p (inr q) = omega (arith, mixed-high m p q, at p .most, at p .range)
 
     -- so it takes every number on the way
-    between : (n m : ℕ) → m ≤ i → ones sure i ≤ n → n + ones sure m ≤ ones sure i + ones maybe m → Reached s t (λ o. rank o 1 i) n
+    between : (n m : ℕ) → m ≤ i → ones must i ≤ n → n + ones must m ≤ ones must i + ones may m → Reached s t (λ o. rank o 1 i) n
     between n zero l a b =
         record {
           outcome = listOf (mixed zero) (length s);
           is = mixed-outcome zero;
-          has = omega (arith, mixed-rank zero l, sum-zero sure, sum-zero maybe);
+          has = omega (arith, mixed-rank zero l, sum-zero must, sum-zero may);
         }
-    between n (suc m) l a b = go (lt-or (ones sure i + ones maybe m) (n + ones sure m)) (between n m (omega arith) a)
+    between n (suc m) l a b = go (lt-or (ones must i + ones may m) (n + ones must m)) (between n m (omega arith) a)
       where
-        go : (ones sure i + ones maybe m < n + ones sure m) ⊎ (n + ones sure m ≤ ones sure i + ones maybe m)
-            → (n + ones sure m ≤ ones sure i + ones maybe m → Reached s t (λ o. rank o 1 i) n) → Reached s t (λ o. rank o 1 i) n
+        go : (ones must i + ones may m < n + ones must m) ⊎ (n + ones must m ≤ ones must i + ones may m)
+            → (n + ones must m ≤ ones must i + ones may m → Reached s t (λ o. rank o 1 i) n) → Reached s t (λ o. rank o 1 i) n
         go (inl q) ih =
             record {
               outcome = listOf (mixed (suc m)) (length s);
               is = mixed-outcome (suc m);
-              has = omega (arith, mixed-rank (suc m) l, sum-suc sure m, sum-suc maybe m, at m .range, at m .most);
+              has = omega (arith, mixed-rank (suc m) l, sum-suc must m, sum-suc may m, at m .range, at m .most);
             }
         go (inr q) ih = ih q
 
     -- the least and the most
     pub rank-range : RankRange s t i (rank (joined onlyFirst s t) 1 i) (rank (joined either s t) 1 i)
     rank-range =
-        let least : rank (joined onlyFirst s t) 1 i ≡ rankOf sure 1 i = listed-rank sure (length s) 1 i h in
-        let most : rank (joined either s t) 1 i ≡ rankOf maybe 1 i = listed-rank maybe (length s) 1 i h in
-        let low : rankOf sure 1 i ≡ ones sure i = rank-ones sure i (λ p. omega (arith, at p .range, at p .most)) in
-        let high : rankOf maybe 1 i ≡ ones maybe i = rank-ones maybe i (λ p. at p .most) in
+        let least : rank (joined onlyFirst s t) 1 i ≡ rankOf must 1 i = listed-rank must (length s) 1 i h in
+        let most : rank (joined either s t) 1 i ≡ rankOf may 1 i = listed-rank may (length s) 1 i h in
+        let low : rankOf must 1 i ≡ ones must i = rank-ones must i (λ p. omega (arith, at p .range, at p .most)) in
+        let high : rankOf may 1 i ≡ ones may i = rank-ones may i (λ p. at p .most) in
         record {
-          noFewer = (λ o u. omega (arith, least, counted o u, rank-under sure (cell o) (length s) i (over-sure o u) h));
-          noMore = (λ o u. omega (arith, most, counted o u, rank-under (cell o) maybe (length s) i (under-maybe o u) h));
-          fewest = record { outcome = joined onlyFirst s t; is = sure-outcome; has = refl };
-          highest = record { outcome = joined either s t; is = maybe-outcome; has = refl };
+          noFewer = (λ o u. omega (arith, least, counted o u, rank-under must (cell o) (length s) i (over-must o u) h));
+          noMore = (λ o u. omega (arith, most, counted o u, rank-under (cell o) may (length s) i (under-may o u) h));
+          fewest = record { outcome = joined onlyFirst s t; is = must-outcome; has = refl };
+          highest = record { outcome = joined either s t; is = may-outcome; has = refl };
           between = (λ n a b. between n i (le-refl i) (omega (arith, least, low)) (omega (arith, most, high)));
         }
 
@@ -171,43 +170,43 @@ module _ (s t : List ℕ) (sBits : (p : ℕ) → cell s p ≤ 1) (tBits : (p : �
     sought : (o : List ℕ) → Outcome s t o → select o 1 k ≡ selectOf (cell o) (length s) 1 k
     sought o u = ap (λ (n : ℕ). selectOf (cell o) n 1 k) (u .long)
 
-    -- every outcome's is no earlier than that of the open strip
+    -- every outcome's is no earlier than that of the misfires that may be
     pub select-earliest : (e : ℕ) → select (joined either s t) 1 k ≡ some e → Earliest s t k e
     select-earliest e h =
         record {
-          reached = record { outcome = joined either s t; is = maybe-outcome; has = h };
+          reached = record { outcome = joined either s t; is = may-outcome; has = h };
           noneBefore = (λ o p u x.
-              let w = select-under (cell o) maybe (length s) k p (under-maybe o u) (sym (sought o u) ∙ x) in
-              let y : e ≡ w .0 = same-place (select (joined either s t) 1 k) e (w .0) h (listed-select maybe (length s) 1 k ∙ w .1) in
+              let w = select-under (cell o) may (length s) k p (under-may o u) (sym (sought o u) ∙ x) in
+              let y : e ≡ w .0 = same-place (select (joined either s t) 1 k) e (w .0) h (listed-select may (length s) 1 k ∙ w .1) in
               omega (arith, w .2));
         }
 
-    -- and no later than that of the sure strip; where this has one, so has every outcome
-    sure-has : (l : ℕ) → select (joined onlyFirst s t) 1 k ≡ some l → (o : List ℕ) → Outcome s t o → (q : ℕ) × (select o 1 k ≡ some q) × (q ≤ l)
-    sure-has l h o u =
-        let w = select-under sure (cell o) (length s) k l (over-sure o u) (sym (listed-select sure (length s) 1 k) ∙ h) in
+    -- and no later than that of the misfires that must be; where these have a k-th, so has every outcome
+    must-has : (l : ℕ) → select (joined onlyFirst s t) 1 k ≡ some l → (o : List ℕ) → Outcome s t o → (q : ℕ) × (select o 1 k ≡ some q) × (q ≤ l)
+    must-has l h o u =
+        let w = select-under must (cell o) (length s) k l (over-must o u) (sym (listed-select must (length s) 1 k) ∙ h) in
         (w .0, sought o u ∙ w .1, w .2)
 
     pub select-latest : (l : ℕ) → select (joined onlyFirst s t) 1 k ≡ some l → NoneLacks s t k × Latest s t k l
     select-latest l h = (
-      (λ o u x. not-both (sure-has l h o u .1) x),
+      (λ o u x. not-both (must-has l h o u .1) x),
       record {
-        reached = record { outcome = joined onlyFirst s t; is = sure-outcome; has = h };
+        reached = record { outcome = joined onlyFirst s t; is = must-outcome; has = h };
         noneAfter = (λ o p u x.
-            let w = sure-has l h o u in
+            let w = must-has l h o u in
             let y : p ≡ w .0 = same-place (select o 1 k) p (w .0) x (w .1) in
             omega (arith, w .2));
       },
     )
 
     pub select-lacking : select (joined onlyFirst s t) 1 k ≡ none → SomeLacks s t k
-    select-lacking h = record { outcome = joined onlyFirst s t; is = sure-outcome; has = h }
+    select-lacking h = record { outcome = joined onlyFirst s t; is = must-outcome; has = h }
 
     pub select-none : select (joined either s t) 1 k ≡ none → AllLack s t k
-    select-none h = λ o u. sought o u ∙ none-under (cell o) maybe (length s) k (under-maybe o u) (sym (listed-select maybe (length s) 1 k) ∙ h)
+    select-none h = λ o u. sought o u ∙ none-under (cell o) may (length s) k (under-may o u) (sym (listed-select may (length s) 1 k) ∙ h)
 
--- ---- lists of words: no more sure misfires before i than open ones
-pub sure-open : (ws vs : List ℕ) (i : ℕ) → rankOf (sureBit ws vs) 1 i ≤ rankOf (openBit ws vs) 1 i
-sure-open ws vs i =
+-- ---- lists of words: before i no more misfires must be than may be
+pub must-may : (ws vs : List ℕ) (i : ℕ) → rankOf (mustBit ws vs) 1 i ≤ rankOf (mayBit ws vs) 1 i
+must-may ws vs i =
     let at : (p : ℕ) → Stroke (bitAt ws p) (bitAt vs p) = (λ p. stroke (bitAt ws p) (bitAt vs p) (bitAt-le ws p) (bitAt-le vs p)) in
-    rank-under (sureBit ws vs) (openBit ws vs) i i (record { le = (λ p l. at p .range); bits = (λ p l. at p .most) }) (le-refl i)
+    rank-under (mustBit ws vs) (mayBit ws vs) i i (record { le = (λ p l. at p .range); bits = (λ p l. at p .most) }) (le-refl i)

@@ -1,4 +1,5 @@
--- Derived, for inner contracts: the least and the most of two lists of words, cell by cell. Laws in proofs/ tie them to the outcomes. Assumes nothing.
+-- Derived, for inner contracts: the misfires that every outcome has, and those that some outcome has, by the words of the two strips. Laws in proofs/ tie them
+-- to the outcomes. Assumes nothing.
 use mathlib.Core.List.{List}
 use Prim.Native.Nat.{ℕ, _*_}
 use Rattle.words.specs.Strip.{selectOf}
@@ -7,12 +8,12 @@ use Rattle.pairs.specs.Rules.{either, onlyFirst}
 use Rattle.pairs.specs.Working.{joinedBit}
 
 -- 1 where every outcome has a misfire: one and not marked
-abbrev pub sureBit : List ℕ → List ℕ → ℕ → ℕ
-sureBit ws vs = joinedBit onlyFirst ws vs
+abbrev pub mustBit : List ℕ → List ℕ → ℕ → ℕ
+mustBit = joinedBit onlyFirst
 
 -- 1 where some outcome has one: one or marked
-abbrev pub openBit : List ℕ → List ℕ → ℕ → ℕ
-openBit ws vs = joinedBit either ws vs
+abbrev pub mayBit : List ℕ → List ℕ → ℕ → ℕ
+mayBit = joinedBit either
 
 -- the position of the k-th one of cells f in `to` words, or their end
 abbrev pub placeOf : (ℕ → ℕ) → ℕ → ℕ → ℕ

@@ -4,7 +4,7 @@ ghost use Prim.Native.Nat.{_*_, _≤_};
 ghost use lib.ListN.{length};
 ghost use Rattle.words.specs.Strip.{rankOf};
 ghost use Rattle.words.specs.Handles.{mostBits, wordsOf};
-ghost use Rattle.waiting.specs.Working.{sureBit, openBit, placeOf};
+ghost use Rattle.waiting.specs.Working.{mustBit, mayBit, placeOf};
 use pairs::Rule;
 use pairs::join;
 use pairs::joined_place;
@@ -27,7 +27,7 @@ pub struct Places {
 // The misfires before position i: those that every outcome has, and those that some outcome has.
 pub fn waiting_ones(xs: &[u64], ys: &[u64], i: usize) -> Counts
     requires { ⌜ (i ≤ 64 * length (now xs)) × (i ≤ 64 * length (now ys)) × (i ≤ mostBits) ⌝ }
-    ensures { λ r. ⌜ (r .least ≡ rankOf (sureBit (now (xs .entry)) (now (ys .entry))) 1 i) × (r .most ≡ rankOf (openBit (now (xs .entry)) (now (ys .entry))) 1 i) ⌝ }
+    ensures { λ r. ⌜ (r .least ≡ rankOf (mustBit (now (xs .entry)) (now (ys .entry))) 1 i) × (r .most ≡ rankOf (mayBit (now (xs .entry)) (now (ys .entry))) 1 i) ⌝ }
 {
     let to = i / 64;
     let mut least: usize = 0;
@@ -56,29 +56,29 @@ pub fn waiting_ones(xs: &[u64], ys: &[u64], i: usize) -> Counts
 // The k-th misfire, k from 0, in the first `to` words: where it lies if every mark becomes one, and if none does.
 pub fn waiting_places(xs: &[u64], ys: &[u64], to: usize, k: usize) -> Places
     requires { ⌜ (to ≤ length (now xs)) × (to ≤ length (now ys)) × (to ≤ wordsOf mostBits) ⌝ }
-    ensures { λ r. ⌜ (r .earliest ≡ placeOf (openBit (now (xs .entry)) (now (ys .entry))) to k) × (r .latest ≡ placeOf (sureBit (now (xs .entry)) (now (ys .entry))) to k) ⌝ }
+    ensures { λ r. ⌜ (r .earliest ≡ placeOf (mayBit (now (xs .entry)) (now (ys .entry))) to k) × (r .latest ≡ placeOf (mustBit (now (xs .entry)) (now (ys .entry))) to k) ⌝ }
 {
-    let mut most = k;
-    let mut least = k;
+    let mut early = k;
+    let mut late = k;
     let mut j: usize = 0;
     while j < to {
         let x = xs[j];
         let y = ys[j];
         let may = join(Rule::Either, x, y);
-        let sure = join(Rule::OnlyFirst, x, y);
+        let must = join(Rule::OnlyFirst, x, y);
         let may_ones = ones_of(may);
-        let sure_ones = ones_of(sure);
-        if most < may_ones {
-            let earliest = 64 * j + select_in_word(may, most);
-            if least < sure_ones {
-                let latest = 64 * j + select_in_word(sure, least);
+        let must_ones = ones_of(must);
+        if early < may_ones {
+            let earliest = 64 * j + select_in_word(may, early);
+            if late < must_ones {
+                let latest = 64 * j + select_in_word(must, late);
                 return Places { earliest, latest };
             }
-            let latest = joined_place(Rule::OnlyFirst, xs, ys, j + 1, to, least - sure_ones);
+            let latest = joined_place(Rule::OnlyFirst, xs, ys, j + 1, to, late - must_ones);
             return Places { earliest, latest };
         }
-        most -= may_ones;
-        least -= sure_ones;
+        early -= may_ones;
+        late -= must_ones;
         j += 1;
     }
     Places {

@@ -10,13 +10,13 @@ use Rattle.words.proofs.BitLaws.{masked-is}
 use Rattle.words.proofs.SearchLaws.{rank-le}
 use Rattle.pairs.specs.Rules.{either, onlyFirst}
 use Rattle.pairs.proofs.JoinLaws.{joined-next, joined-last}
-use Rattle.waiting.specs.Working.{sureBit, openBit}
+use Rattle.waiting.specs.Working.{mustBit, mayBit}
 use Rattle.waiting.proofs.scan.waiting_ones.Statement.{statement}
 use Rattle.waiting.proofs.scan.waiting_ones.Tie as tie
 
 abbrev Inv-loop : tie.InvT-loop
 Inv-loop xs ys i to least₀ most₀ j₀ least most j =
-    (j ≤ i / 64) × (least ≡ rankOf (sureBit xs ys) 1 (64 * j)) × (most ≡ rankOf (openBit xs ys) 1 (64 * j))
+    (j ≤ i / 64) × (least ≡ rankOf (mustBit xs ys) 1 (64 * j)) × (most ≡ rankOf (mayBit xs ys) 1 (64 * j))
 
 abbrev μ-loop : tie.MeasureT-loop
 μ-loop xs ys i to least₀ most₀ j₀ least most j = i / 64 - j
@@ -24,7 +24,7 @@ abbrev μ-loop : tie.MeasureT-loop
 loop-holds : tie.Need-loop-holds Inv-loop μ-loop
 loop-holds c =
     let a = c .before .before .args in
-    omega (arith, sum-zero (holds (sureBit (a .xs .now) (a .ys .now)) 1), sum-zero (holds (openBit (a .xs .now) (a .ys .now)) 1))
+    omega (arith, sum-zero (holds (mustBit (a .xs .now) (a .ys .now)) 1), sum-zero (holds (mayBit (a .xs .now) (a .ys .now)) 1))
 
 mul-x : tie.Need-mul-x Inv-loop μ-loop
 mul-x c = omega arith
@@ -48,7 +48,7 @@ ones-of-requires c κs = search needs
 least-next : (c : tie.After-ones-of Inv-loop μ-loop)
     → let a = c .before .before .before .before .before .before .before .before .args in
     let l = c .before .before .before .before .before .loop in
-    l .least + c .ones-of .result ≡ rankOf (sureBit (a .xs .now) (a .ys .now)) 1 (64 * (l .j + 1))
+    l .least + c .ones-of .result ≡ rankOf (mustBit (a .xs .now) (a .ys .now)) 1 (64 * (l .j + 1))
 least-next c =
     let a = c .before .before .before .before .before .before .before .before .args in
     let l = c .before .before .before .before .before .loop in
@@ -58,7 +58,7 @@ least-next c =
 add-least : tie.Need-add-least Inv-loop μ-loop
 add-least c =
     let a = c .before .before .before .before .before .before .before .before .args in
-    omega (arith, least-next c, rank-le (sureBit (a .xs .now) (a .ys .now)) 1 (64 * (c .before .before .before .before .before .loop .j + 1)))
+    omega (arith, least-next c, rank-le (mustBit (a .xs .now) (a .ys .now)) 1 (64 * (c .before .before .before .before .before .loop .j + 1)))
 
 join-requires-2 : tie.Need-join-requires-2 Inv-loop μ-loop
 join-requires-2 c κs = search needs
@@ -70,7 +70,7 @@ ones-of-requires-2 c κs = search needs
 most-next : (c : tie.After-ones-of2 Inv-loop μ-loop)
     → let a = c .before .before .before .before .before .before .before .before .before .before .args in
     let l = c .before .before .before .before .before .before .before .loop in
-    l .most + c .ones-of2 .result ≡ rankOf (openBit (a .xs .now) (a .ys .now)) 1 (64 * (l .j + 1))
+    l .most + c .ones-of2 .result ≡ rankOf (mayBit (a .xs .now) (a .ys .now)) 1 (64 * (l .j + 1))
 most-next c =
     let a = c .before .before .before .before .before .before .before .before .before .before .args in
     let l = c .before .before .before .before .before .before .before .loop in
@@ -80,7 +80,7 @@ most-next c =
 add-most : tie.Need-add-most Inv-loop μ-loop
 add-most c =
     let a = c .before .before .before .before .before .before .before .before .before .before .args in
-    omega (arith, most-next c, rank-le (openBit (a .xs .now) (a .ys .now)) 1 (64 * (c .before .before .before .before .before .before .before .loop .j + 1)))
+    omega (arith, most-next c, rank-le (mayBit (a .xs .now) (a .ys .now)) 1 (64 * (c .before .before .before .before .before .before .before .loop .j + 1)))
 
 add-j : tie.Need-add-j Inv-loop μ-loop
 add-j c = omega arith
@@ -96,7 +96,7 @@ returns c =
     let a = c .before .before .before .before .before .args in
     let l = c .before .before .loop in
     let e : 64 * l .j ≡ a .i = omega arith in
-    (l .inv .1 ∙ ap (rankOf (sureBit (a .xs .now) (a .ys .now)) 1) e, l .inv .2 ∙ ap (rankOf (openBit (a .xs .now) (a .ys .now)) 1) e)
+    (l .inv .1 ∙ ap (rankOf (mustBit (a .xs .now) (a .ys .now)) 1) e, l .inv .2 ∙ ap (rankOf (mayBit (a .xs .now) (a .ys .now)) 1) e)
 
 mul-x-2 : tie.Need-mul-x-2 Inv-loop μ-loop
 mul-x-2 c = omega arith
@@ -122,7 +122,7 @@ ones-of-requires-3 c κs = search needs
 -- the least with the ones of the last word's low bits
 least-last : (c : tie.After-ones-of3 Inv-loop μ-loop)
     → let a = c .before .before .before .before .before .before .before .before .before .before .args in
-    c .before .before .before .before .before .before .before .loop .least + c .ones-of3 .result ≡ rankOf (sureBit (a .xs .now) (a .ys .now)) 1 (a .i)
+    c .before .before .before .before .before .before .before .loop .least + c .ones-of3 .result ≡ rankOf (mustBit (a .xs .now) (a .ys .now)) 1 (a .i)
 least-last c =
     let a = c .before .before .before .before .before .before .before .before .before .before .args in
     let l = c .before .before .before .before .before .before .before .loop in
@@ -130,12 +130,12 @@ least-last c =
     let low = masked-is z (a .i % 64) (c .before .before .low-mask .result) (c .ones-of3 .result) (omega arith) (c .before .before .low-mask .ensures) (c .ones-of3 .ensures) in
     let w = joined-last onlyFirst (a .xs .now) (a .ys .now) (a .i / 64) z (c .before .join3 .ensures) (a .i) refl in
     let at : 64 * l .j ≡ 64 * (a .i / 64) = omega arith in
-    omega (arith, l .inv .1, low, w, ap (rankOf (sureBit (a .xs .now) (a .ys .now)) 1) at)
+    omega (arith, l .inv .1, low, w, ap (rankOf (mustBit (a .xs .now) (a .ys .now)) 1) at)
 
 add-t27 : tie.Need-add-t27 Inv-loop μ-loop
 add-t27 c =
     let a = c .before .before .before .before .before .before .before .before .before .before .args in
-    omega (arith, least-last c, rank-le (sureBit (a .xs .now) (a .ys .now)) 1 (a .i))
+    omega (arith, least-last c, rank-le (mustBit (a .xs .now) (a .ys .now)) 1 (a .i))
 
 join-requires-4 : tie.Need-join-requires-4 Inv-loop μ-loop
 join-requires-4 c κs = search needs
@@ -146,7 +146,7 @@ ones-of-requires-4 c κs = search needs
 -- the most with them
 most-last : (c : tie.After-ones-of4 Inv-loop μ-loop)
     → let a = c .before .before .before .before .before .before .before .before .before .before .before .before .args in
-    c .before .before .before .before .before .before .before .before .before .loop .most + c .ones-of4 .result ≡ rankOf (openBit (a .xs .now) (a .ys .now)) 1 (a .i)
+    c .before .before .before .before .before .before .before .before .before .loop .most + c .ones-of4 .result ≡ rankOf (mayBit (a .xs .now) (a .ys .now)) 1 (a .i)
 most-last c =
     let a = c .before .before .before .before .before .before .before .before .before .before .before .before .args in
     let l = c .before .before .before .before .before .before .before .before .before .loop in
@@ -154,12 +154,12 @@ most-last c =
     let low = masked-is z (a .i % 64) (c .before .before .before .before .low-mask .result) (c .ones-of4 .result) (omega arith) (c .before .before .before .before .low-mask .ensures) (c .ones-of4 .ensures) in
     let w = joined-last either (a .xs .now) (a .ys .now) (a .i / 64) z (c .before .join4 .ensures) (a .i) refl in
     let at : 64 * l .j ≡ 64 * (a .i / 64) = omega arith in
-    omega (arith, l .inv .2, low, w, ap (rankOf (openBit (a .xs .now) (a .ys .now)) 1) at)
+    omega (arith, l .inv .2, low, w, ap (rankOf (mayBit (a .xs .now) (a .ys .now)) 1) at)
 
 add-t32 : tie.Need-add-t32 Inv-loop μ-loop
 add-t32 c =
     let a = c .before .before .before .before .before .before .before .before .before .before .before .before .args in
-    omega (arith, most-last c, rank-le (openBit (a .xs .now) (a .ys .now)) 1 (a .i))
+    omega (arith, most-last c, rank-le (mayBit (a .xs .now) (a .ys .now)) 1 (a .i))
 
 returns-2 : tie.Need-returns-2 Inv-loop μ-loop
 returns-2 c = (least-last (c .before .before), most-last c)

@@ -1,5 +1,5 @@
--- `waiting::scan::waiting_places` meets its contract. The invariant: the words before j are passed, and of the k remain `most` of the open strip and `least` of
--- the sure one. Assumes nothing.
+-- `waiting::scan::waiting_places` meets its contract. The invariant: the words before j are passed, and of the k misfires before the one sought remain `early`
+-- of those that may be and `late` of those that must be. Assumes nothing.
 use mathlib.Core.Path.{_≡_, sym, ap, _∙_}
 use Prim.Native.Nat.{ℕ, _+_, _-_, _*_, _≤_, _<_}
 use native.Mathlib.Omega.{arith}
@@ -9,22 +9,22 @@ use Rattle.words.proofs.Sums.{sum-zero}
 use Rattle.words.proofs.SearchLaws.{placeIn-none}
 use Rattle.pairs.specs.Rules.{either, onlyFirst}
 use Rattle.pairs.proofs.JoinLaws.{joined-next, joined-word-select}
-use Rattle.waiting.specs.Working.{sureBit, openBit, placeOf}
-use Rattle.waiting.proofs.OutcomeLaws.{sure-open}
+use Rattle.waiting.specs.Working.{mustBit, mayBit, placeOf}
+use Rattle.waiting.proofs.OutcomeLaws.{must-may}
 use Rattle.waiting.proofs.scan.waiting_places.Statement.{statement}
 use Rattle.waiting.proofs.scan.waiting_places.Tie as tie
 
 abbrev Inv-loop : tie.InvT-loop
-Inv-loop xs ys to k most₀ least₀ j₀ most least j =
-    (j ≤ to) × (rankOf (openBit xs ys) 1 (64 * j) + most ≡ k) × (rankOf (sureBit xs ys) 1 (64 * j) + least ≡ k)
+Inv-loop xs ys to k early₀ late₀ j₀ early late j =
+    (j ≤ to) × (rankOf (mayBit xs ys) 1 (64 * j) + early ≡ k) × (rankOf (mustBit xs ys) 1 (64 * j) + late ≡ k)
 
 abbrev μ-loop : tie.MeasureT-loop
-μ-loop xs ys to k most₀ least₀ j₀ most least j = to - j
+μ-loop xs ys to k early₀ late₀ j₀ early late j = to - j
 
 loop-holds : tie.Need-loop-holds Inv-loop μ-loop
 loop-holds c =
     let a = c .before .before .args in
-    omega (arith, sum-zero (holds (sureBit (a .xs .now) (a .ys .now)) 1), sum-zero (holds (openBit (a .xs .now) (a .ys .now)) 1))
+    omega (arith, sum-zero (holds (mustBit (a .xs .now) (a .ys .now)) 1), sum-zero (holds (mayBit (a .xs .now) (a .ys .now)) 1))
 
 mul-x : tie.Need-mul-x Inv-loop μ-loop
 mul-x c = omega arith
@@ -50,12 +50,12 @@ ones-of-requires c κs = search needs
 ones-of-requires-2 : tie.Need-ones-of-requires-2 Inv-loop μ-loop
 ones-of-requires-2 c κs = search needs
 
--- the ones of word j: those before the next word, of both strips, of which the sure one has no more
+-- the misfires of word j with those before it: those before the next word, of which no more must be than may be
 next : (c : tie.After-ones-of2 Inv-loop μ-loop)
     → let a = c .before .before .before .before .before .before .before .before .before .before .args in
     let j = c .before .before .before .before .before .before .before .loop .j in
-    let f : ℕ → ℕ = openBit (a .xs .now) (a .ys .now) in
-    let g : ℕ → ℕ = sureBit (a .xs .now) (a .ys .now) in
+    let f : ℕ → ℕ = mayBit (a .xs .now) (a .ys .now) in
+    let g : ℕ → ℕ = mustBit (a .xs .now) (a .ys .now) in
     (rankOf f 1 (64 * j) + c .before .ones-of .result ≡ rankOf f 1 (64 * (j + 1)))
     × (rankOf g 1 (64 * j) + c .ones-of2 .result ≡ rankOf g 1 (64 * (j + 1)))
     × (rankOf g 1 (64 * (j + 1)) ≤ rankOf f 1 (64 * (j + 1)))
@@ -64,7 +64,7 @@ next c =
     let j = c .before .before .before .before .before .before .before .loop .j in
     let f = joined-next either (a .xs .now) (a .ys .now) j (c .before .before .before .join .result) (c .before .before .before .join .ensures) in
     let g = joined-next onlyFirst (a .xs .now) (a .ys .now) j (c .before .before .join2 .result) (c .before .before .join2 .ensures) in
-    (omega (arith, f, c .before .ones-of .ensures), omega (arith, g, c .ones-of2 .ensures), sure-open (a .xs .now) (a .ys .now) (64 * (j + 1)))
+    (omega (arith, f, c .before .ones-of .ensures), omega (arith, g, c .ones-of2 .ensures), must-may (a .xs .now) (a .ys .now) (64 * (j + 1)))
 
 mul-earliest : tie.Need-mul-earliest Inv-loop μ-loop
 mul-earliest c = omega arith
@@ -76,12 +76,12 @@ select-in-word-requires c κs = search needs
 earliest : (c : tie.After-select-in-word Inv-loop μ-loop)
     → let a = c .before .before .before .before .before .before .before .before .before .before .before .before .args in
     let e = c .select-in-word .result in
-    (e < 64) × (64 * c .before .before .before .before .before .before .before .before .before .loop .j + e ≡ placeOf (openBit (a .xs .now) (a .ys .now)) (a .to) (a .k))
+    (e < 64) × (64 * c .before .before .before .before .before .before .before .before .before .loop .j + e ≡ placeOf (mayBit (a .xs .now) (a .ys .now)) (a .to) (a .k))
 earliest c =
     let a = c .before .before .before .before .before .before .before .before .before .before .before .before .args in
     let l = c .before .before .before .before .before .before .before .before .before .loop in
     let z = c .before .before .before .before .before .join in
-    joined-word-select either (a .xs .now) (a .ys .now) (l .j) (z .result) (z .ensures) (a .to) (a .k) (l .most) (c .select-in-word .result)
+    joined-word-select either (a .xs .now) (a .ys .now) (l .j) (z .result) (z .ensures) (a .to) (a .k) (l .early) (c .select-in-word .result)
     (c .before .before .before .before .before .before .before .before .loop-test .taken) (l .inv .1) (omega (arith, c .before .if1 .taken, c .before .before .before .ones-of .ensures)) (c .select-in-word .ensures)
 
 add-earliest : tie.Need-add-earliest Inv-loop μ-loop
@@ -97,12 +97,12 @@ select-in-word-requires-2 c κs = search needs
 latest : (c : tie.After-select-in-word2 Inv-loop μ-loop)
     → let a = c .before .before .before .before .before .before .before .before .before .before .before .before .before .before .args in
     let e = c .select-in-word2 .result in
-    (e < 64) × (64 * c .before .before .before .before .before .before .before .before .before .before .before .loop .j + e ≡ placeOf (sureBit (a .xs .now) (a .ys .now)) (a .to) (a .k))
+    (e < 64) × (64 * c .before .before .before .before .before .before .before .before .before .before .before .loop .j + e ≡ placeOf (mustBit (a .xs .now) (a .ys .now)) (a .to) (a .k))
 latest c =
     let a = c .before .before .before .before .before .before .before .before .before .before .before .before .before .before .args in
     let l = c .before .before .before .before .before .before .before .before .before .before .before .loop in
     let z = c .before .before .before .before .before .before .join2 in
-    joined-word-select onlyFirst (a .xs .now) (a .ys .now) (l .j) (z .result) (z .ensures) (a .to) (a .k) (l .least) (c .select-in-word2 .result)
+    joined-word-select onlyFirst (a .xs .now) (a .ys .now) (l .j) (z .result) (z .ensures) (a .to) (a .k) (l .late) (c .select-in-word2 .result)
     (c .before .before .before .before .before .before .before .before .before .before .loop-test .taken) (l .inv .2) (omega (arith, c .before .if2 .taken, c .before .before .before .before .ones-of2 .ensures)) (c .select-in-word2 .ensures)
 
 add-latest : tie.Need-add-latest Inv-loop μ-loop
@@ -117,17 +117,17 @@ add-joined-place c = omega arith
 joined-place-requires : tie.Need-joined-place-requires Inv-loop μ-loop
 joined-place-requires c κs = omega arith
 
--- the latest past it: the k-th one is the one that has `least`, less the ones of word j, before it from the next word on
+-- the latest past it: the k-th one is the one that has `late`, less the ones of word j, before it from the next word on
 returns-2 : tie.Need-returns-2 Inv-loop μ-loop
 returns-2 c =
     let a = c .before .before .before .before .before .before .before .before .before .before .before .before .before .before .args in
     let l = c .before .before .before .before .before .before .before .before .before .before .before .loop in
-    let g : ℕ → ℕ = sureBit (a .xs .now) (a .ys .now) in
-    let e : rankOf g 1 (64 * (l .j + 1)) + (l .least - c .before .before .before .before .ones-of2 .result) ≡ a .k = omega (arith, next (c .before .before .before .before) .1, l .inv .2, c .before .if2 .left) in
+    let g : ℕ → ℕ = mustBit (a .xs .now) (a .ys .now) in
+    let e : rankOf g 1 (64 * (l .j + 1)) + (l .late - c .before .before .before .before .ones-of2 .result) ≡ a .k = omega (arith, next (c .before .before .before .before) .1, l .inv .2, c .before .if2 .left) in
     (earliest (c .before .before) .1, c .joined-place .ensures ∙ ap (placeOf g (a .to)) e)
 
-sub-least : tie.Need-sub-least Inv-loop μ-loop
-sub-least c = let w = next (c .before) in omega (arith, w .0, w .1, w .2, c .before .before .before .before .before .before .before .before .loop .inv .1, c .before .before .before .before .before .before .before .before .loop .inv .2, c .if1 .left)
+sub-late : tie.Need-sub-late Inv-loop μ-loop
+sub-late c = let w = next (c .before) in omega (arith, w .0, w .1, w .2, c .before .before .before .before .before .before .before .before .loop .inv .1, c .before .before .before .before .before .before .before .before .loop .inv .2, c .if1 .left)
 
 add-j : tie.Need-add-j Inv-loop μ-loop
 add-j c = omega arith
@@ -139,7 +139,7 @@ loop-again : tie.Need-loop-again Inv-loop μ-loop
 loop-again c =
     let w = next (c .before) in
     let l = c .before .before .before .before .before .before .before .before .loop in
-    (omega arith, omega (arith, w .0, l .inv .1, c .if1 .left), omega (arith, w .1, l .inv .2, sub-least c))
+    (omega arith, omega (arith, w .0, l .inv .1, c .if1 .left), omega (arith, w .1, l .inv .2, sub-late c))
 
 mul-t29 : tie.Need-mul-t29 Inv-loop μ-loop
 mul-t29 c = omega arith
@@ -151,8 +151,8 @@ returns-3 : tie.Need-returns-3 Inv-loop μ-loop
 returns-3 c =
     let a = c .before .before .before .before .args in
     let l = c .before .loop in
-    let f : ℕ → ℕ = openBit (a .xs .now) (a .ys .now) in
-    let g : ℕ → ℕ = sureBit (a .xs .now) (a .ys .now) in
+    let f : ℕ → ℕ = mayBit (a .xs .now) (a .ys .now) in
+    let g : ℕ → ℕ = mustBit (a .xs .now) (a .ys .now) in
     let e : 64 * l .j ≡ 64 * a .to = omega arith in (
       sym (placeIn-none f (64 * a .to) 1 (a .k) (omega (arith, l .inv .1, ap (rankOf f 1) e))),
       sym (placeIn-none g (64 * a .to) 1 (a .k) (omega (arith, l .inv .2, ap (rankOf g 1) e))),
@@ -183,7 +183,7 @@ waiting-places-spec =
     add-joined-place
     joined-place-requires
     returns-2
-    sub-least
+    sub-late
     add-j
     loop-less
     loop-again

@@ -1,4 +1,4 @@
--- `waiting::waiting::waiting_select` meets its contract: where the open strip has its k-th one, and where the sure one. Assumes nothing.
+-- `waiting::waiting::waiting_select` meets its contract: the k-th of the misfires that may be, and of those that must be. Assumes nothing.
 use Prim.Native.Nat.{_+_, _/_}
 use native.Mathlib.Omega.{arith}
 use borrow.Author.Needs.{needs}
