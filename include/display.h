@@ -47,13 +47,14 @@ extern "C" {
 /* Why a call is refused. A length is that of the strip or of the row. */
 enum strip_refusal {
     STRIP_BAD_HANDLE = 1,     /* capacity not a multiple of 512 from 512 to 134,217,728, or length above capacity */
-    STRIP_BAD_WORDS = 2,      /* words_len, of two strips first_len or second_len, not capacity / 64 */
+    STRIP_BAD_WORDS = 2,      /* words_len, of two strips also first_len, second_len, waiting_len, not capacity / 64 */
     STRIP_BAD_COUNTERS = 3,   /* counters_len not the number that the capacity needs */
     STRIP_POSITION = 4,       /* a position above the length; for a get or a flip also at the length.
                                  image_record_size: a length above 134,217,728 */
     STRIP_SPAN = 5,           /* a span whose start is above its end */
     STRIP_NOT_FOUND = 6,      /* no such position; for a select: k not below the number of v.
-                                 strip_pair_find: k not below the number of strokes judged differently */
+                                 strip_pair_find: k not below the number of strokes judged differently.
+                                 strip_waiting_find: no outcome has a k-th misfire */
     STRIP_FULL = 7,           /* length at capacity */
     STRIP_BAD_VALUE = 8,      /* v neither 0 nor 1 */
     STRIP_UNFIT = 9,          /* the record does not fit: a one at or past the length, or a wrong counter */

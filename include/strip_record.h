@@ -41,6 +41,18 @@ struct strip_difference {
     int64_t value;
 };
 
+/* What strip_record_waiting_count answers. Accepted: 0, the least and the most. Refused: the number of the refusal,
+ * 0, 0. */
+struct strip_count_range {
+    uint64_t refusal, least, most;
+};
+
+/* What strip_record_waiting_find answers. Accepted: 0; the earliest position; certain, 1 where every outcome has a k-th
+ * misfire, else 0; the latest position where certain is 1, else 0. Refused: the number of the refusal, 0, 0, 0. */
+struct strip_find_range {
+    uint64_t refusal, earliest, certain, latest;
+};
+
 /* A record over these buffers, of which nothing is read yet. Up to an accepted strip_record_create every other call
  * on it is refused, by STRIP_BAD_HANDLE unless a record before it is refused first. */
 static inline struct strip_record strip_record_over(uint64_t *words, size_t words_len, uint32_t *counters,
@@ -64,7 +76,7 @@ static inline uint64_t strip_record_capacity(const struct strip_record *r) { ret
 
 static inline uint64_t strip_record_length(const struct strip_record *r) { return r->handle.length; }
 
-/* The answer of a call that takes no record and returns a uint64_t, as strip_answer_of(image_inspect(image, image_len)).
+/* The answer of a call that takes no record and returns a uint64_t, as strip_answer_of(image_clear(image, image_len)).
  * That of strip_pair_span is an int64_t: see strip_record_pair_span. */
 static inline struct strip_answer strip_answer_of(uint64_t answer)
 {
@@ -167,8 +179,8 @@ static inline struct strip_answer strip_record_freeze(const struct strip_record 
 }
 
 /* ---- Two strips compared. Of both records the handle and the words are read, and no counters; so a record that is
- * only compared may be one of strip_record_resume with NULL, 0 for counters. A strip that is ahead may be compared under
- * the other's handle: strip_record_resume(second.handle, first.words, first.words_len, NULL, 0). */
+ * only compared may be one of strip_record_resume with NULL, 0 for counters. A strip that is ahead may be compared
+ * under the other's handle: strip_record_resume(second.handle, first.words, first.words_len, NULL, 0). */
 
 /* The arguments that these calls start with; undefined again below. */
 #define STRIP_RECORD_PAIR                                                         \
@@ -217,8 +229,36 @@ static inline struct strip_difference strip_record_pair_span(const struct strip_
     return d;
 }
 
+/* ---- A strip of which some strokes wait, and the waiting strip, which marks them. Of both records the handle and the
+ * words are read, and no counters. The waiting strip is kept as any other: each stroke is pushed to it, as 1 where it
+ * waits, and flipped when its pressure has come. */
+
+/* The arguments that these calls start with; undefined again below. */
+#define STRIP_RECORD_WAITING                                                      \
+    strip->handle.capacity, strip->handle.length, strip->words, strip->words_len, \
+        waiting->handle.capacity, waiting->handle.length, waiting->words, waiting->words_len
+
+static inline struct strip_count_range strip_record_waiting_count(const struct strip_record *strip,
+                                                                  const struct strip_record *waiting, uint64_t i)
+{
+    uint64_t out[STRIP_WAITING_COUNT_OUT];
+    strip_waiting_count(STRIP_RECORD_WAITING, i, out, STRIP_WAITING_COUNT_OUT);
+    struct strip_count_range range = {out[0], out[1], out[2]};
+    return range;
+}
+
+static inline struct strip_find_range strip_record_waiting_find(const struct strip_record *strip,
+                                                                const struct strip_record *waiting, uint64_t k)
+{
+    uint64_t out[STRIP_WAITING_FIND_OUT];
+    strip_waiting_find(STRIP_RECORD_WAITING, k, out, STRIP_WAITING_FIND_OUT);
+    struct strip_find_range range = {out[0], out[1], out[2], out[3]};
+    return range;
+}
+
 #undef STRIP_RECORD_WORDS
 #undef STRIP_RECORD_WHOLE
 #undef STRIP_RECORD_PAIR
+#undef STRIP_RECORD_WAITING
 
 #endif

@@ -17,10 +17,10 @@
  *
  * LENDING. A call is lent the elements x[0] to x[x_len - 1] of each buffer x. They are aligned for their type, words
  * and out to 8 bytes, counters to 4, image to 1. The buffers of one call do not overlap, but for the words of two
- * strips, which are only read, and may overlap or be the same. Nobody else uses what a call writes, or changes what it reads, until
- * it returns. It allocates nothing and keeps nothing. A buffer of length 0 may be NULL. What no call can see is the
- * caller's to keep: that so many elements are there, aligned and apart. All else is judged, and any numbers and any
- * contents may be given.
+ * strips, which are only read, and may overlap or be the same; `out` overlaps neither. Nobody else uses what a call
+ * writes, or changes what it reads, until it returns. It allocates nothing and keeps nothing. A buffer of length 0 may
+ * be NULL. What no call can see is the caller's to keep: that so many elements are there, aligned and apart. All else
+ * is judged, and any numbers and any contents may be given.
  *
  * NUMBERS. Every argument is taken as the 64-bit number that it is, and none is cut: a v of 2^32 + 1 is refused 8, a
  * capacity of 2^32 + 512 is refused 1.
@@ -37,7 +37,8 @@
  * TIME. strip_create, strip_fill, strip_truncate and strip_verify go over all words and counters, strip_successor and
  * strip_predecessor from word to word up to the first hit, image_freeze over the words up to the length. The calls on
  * two strips go over the words of both, each word once: those before i, those up to the stroke found or to the length,
- * those of the span. The other calls on a strip take constant time.
+ * those of the span; strip_waiting_find up to the latest position, where there is one, else to the length. The other
+ * calls on a strip take constant time.
  */
 #ifndef STRIPS_H
 #define STRIPS_H
@@ -52,8 +53,10 @@ extern "C" {
  * stand in #if; STRIP_COUNTERS evaluates it more than once. They judge nothing: of a capacity that is not allowed, or
  * a length above 134,217,728, they mean nothing. */
 
-/* The numbers that a change writes to `out`. */
+/* The numbers that a change writes to `out`; and those of strip_waiting_count and of strip_waiting_find. */
 #define STRIP_OUT 5
+#define STRIP_WAITING_COUNT_OUT 3
+#define STRIP_WAITING_FIND_OUT 4
 
 /* The words of a record of that capacity: 8 to 2,097,152. */
 #define STRIP_WORDS(capacity) ((size_t)(capacity) / 64)
@@ -286,6 +289,60 @@ uint64_t strip_pair_find(uint64_t first_capacity, uint64_t first_length, const u
 int64_t strip_pair_span(uint64_t first_capacity, uint64_t first_length, const uint64_t *first, size_t first_len,
                         uint64_t second_capacity, uint64_t second_length, const uint64_t *second, size_t second_len,
                         uint64_t a, uint64_t b);
+
+/* ---- Readings of a strip of which some strokes still WAIT: the pressure trace lags, and has not judged them yet. A
+ * second strip of the same capacity and length, the waiting strip, marks them: its bit is 1 where the stroke waits, 0
+ * where it does not. A stroke that waits may become a misfire or a good firing, and the bit that the strip has of it
+ * does not matter. An OUTCOME is a strip that may come of this: it has the strip's length, either bit for each stroke
+ * that waits, and the strip's own bit for every other. For example, with 2^4 outcomes:
+ *   the strip                             01101101010101110
+ *   the waiting strip                     00110000000001001     strokes 2, 3, 13 and 16 wait
+ *   the outcome with the least misfires   01001101010100110     8 of them
+ *   the outcome with the most             01111101010101111     12
+ * The calls answer for all outcomes together. Of each strip they take the handle and the words, and no counters:
+ * capacity, length, words and words_len of the strip; waiting_capacity, waiting_length, waiting and waiting_len of the
+ * waiting strip. They change no word, ignore the bits and marks at and past the length, and answer alike whether
+ * records fit or not. They write three numbers to `out`, the find four, and none past these:
+ *   out[0]        the number of the refusal, or 0
+ *   the others    the values, all 0 where refused
+ * With out_len below that, NULL and 0 among these, a call does nothing at all: not even `out` changes. Both have these
+ * refusals first, in this order:
+ *   1, 2   of the strip, judged on its own handle and its own words
+ *   1, 2   of the waiting strip, on its own
+ *   16     capacity is not waiting_capacity, or length is not waiting_length
+ * Below, "length" is that of both. */
+
+/* waiting count(i). How many of the first i strokes are misfires; the stroke at position i is not counted.
+ * Values, 0 to i:
+ *   out[1]   the least in any outcome
+ *   out[2]   the most in any outcome; each number from the least to the most is that of some outcome
+ * Refusals: 1, 2, 1, 2, 16, 4.
+ *   i = 0                          0 and 0, also in empty strips
+ *   i = length                     the least and the most misfires of the whole strip
+ *   i above that                   refused 4
+ *   none of the first i waits      the same number twice: their ones
+ *   each of the first i waits      0 and i, whatever the strip's bits are */
+void strip_waiting_count(uint64_t capacity, uint64_t length, const uint64_t *words, size_t words_len,
+                         uint64_t waiting_capacity, uint64_t waiting_length, const uint64_t *waiting,
+                         size_t waiting_len, uint64_t i, uint64_t *out, size_t out_len);
+
+/* waiting find(k). Where the k-th misfire may lie; k starts at 0, so that k = 0 asks for the first one.
+ * Values:
+ *   out[1]   its earliest position in any outcome
+ *   out[2]   1 where every outcome has a k-th misfire; 0 where some outcome has none, though others do
+ *   out[3]   where out[2] is 1, its latest position in any outcome; where out[2] is 0 there is no latest, and the 0
+ *            that stands here is no position
+ * Refusals: 1, 2, 1, 2, 16, 6.
+ * With the least and the most that waiting count(length) answers:
+ *   k below the least                    earliest and latest, below the length; out[2] is 1
+ *   k at or past it, below the most      the earliest alone; out[2] is 0
+ *   k at or past the most                refused 6, no outcome has a k-th misfire; so for k at or past the length, and
+ *                                        in empty strips for every k
+ *   no stroke waits                      the same position twice, that of the k-th one; or refused 6
+ *   every stroke waits                   k is the earliest, for every k below the length, and out[2] is 0 */
+void strip_waiting_find(uint64_t capacity, uint64_t length, const uint64_t *words, size_t words_len,
+                        uint64_t waiting_capacity, uint64_t waiting_length, const uint64_t *waiting,
+                        size_t waiting_len, uint64_t k, uint64_t *out, size_t out_len);
 
 /* ---- Writing an image. */
 
