@@ -13,6 +13,9 @@ static const char a[] = "01101101010101110";
 /* What another judge says of the same strokes: they differ at 2, 10 and 15. */
 static const char other[] = "01001101011101100";
 
+/* Which of these strokes wait: 2, 3, 13 and 16. */
+static const char marks[] = "00110000000001001";
+
 static uint64_t words[STRIP_WORDS(CAPACITY)], other_words[STRIP_WORDS(CAPACITY)];
 static uint32_t counters[STRIP_COUNTERS(CAPACITY)], other_counters[STRIP_COUNTERS(CAPACITY)];
 static uint8_t image[IMAGE_HEADER_BYTES + IMAGE_RECORD_BYTES(17)];
@@ -36,6 +39,25 @@ static void expect_span(const char *call, struct strip_difference told, uint64_t
     failed = 1;
 }
 
+static void expect_count(const char *call, struct strip_count_range told, uint64_t refusal, uint64_t least,
+                         uint64_t most)
+{
+    if (told.refusal == refusal && told.least == least && told.most == most)
+        return;
+    printf("%s: %" PRIu64 ", %" PRIu64 ", %" PRIu64 "\n", call, told.refusal, told.least, told.most);
+    failed = 1;
+}
+
+static void expect_find(const char *call, struct strip_find_range told, uint64_t refusal, uint64_t earliest,
+                        uint64_t certain, uint64_t latest)
+{
+    if (told.refusal == refusal && told.earliest == earliest && told.certain == certain && told.latest == latest)
+        return;
+    printf("%s: %" PRIu64 ", %" PRIu64 ", ", call, told.refusal, told.earliest);
+    printf("%" PRIu64 ", %" PRIu64 "\n", told.certain, told.latest);
+    failed = 1;
+}
+
 static void expect_handle(const char *call, uint64_t capacity, uint64_t length)
 {
     if (strip_record_capacity(&record) == capacity && strip_record_length(&record) == length)
@@ -52,6 +74,13 @@ static void expect_handle(const char *call, uint64_t capacity, uint64_t length)
 /* A span of two strips: its value, or its refusal. */
 #define SPAN_VALUE(call, value) expect_span(#call, call, 0, value)
 #define SPAN_REFUSAL(call, refusal) expect_span(#call, call, refusal, 0)
+
+/* A count and a find with strokes that wait: the values, or the refusal. */
+#define BETWEEN(call, least, most) expect_count(#call, call, 0, least, most)
+#define COUNT_REFUSAL(call, refusal) expect_count(#call, call, refusal, 0, 0)
+#define FROM_TO(call, earliest, latest) expect_find(#call, call, 0, earliest, 1, latest)
+#define FROM(call, earliest) expect_find(#call, call, 0, earliest, 0, 0)
+#define FIND_REFUSAL(call, refusal) expect_find(#call, call, refusal, 0, 0, 0)
 
 /* A change: its values, with the length afterwards; or its refusal, and the handle as it was. */
 #define CHANGED(call, value, second, length) \
@@ -109,6 +138,45 @@ static void compare(void)
     SPAN_VALUE(strip_record_pair_span(&o, &record, 0, 17), -1);
 }
 
+/* The record, which holds strip A, with the record of the strokes that wait. */
+static void wait_for_pressure(void)
+{
+    struct strip_record w =
+        strip_record_over(other_words, STRIP_WORDS(CAPACITY), other_counters, STRIP_COUNTERS(CAPACITY));
+    COUNT_REFUSAL(strip_record_waiting_count(&record, &w, 0), STRIP_BAD_HANDLE);
+    FIND_REFUSAL(strip_record_waiting_find(&w, &record, 0), STRIP_BAD_HANDLE);
+    strip_record_create(&w, CAPACITY);
+    for (uint64_t p = 0; p + 1 < strlen(marks); p++)
+        strip_record_push(&w, marks[p] == '1');
+    COUNT_REFUSAL(strip_record_waiting_count(&record, &w, 18), STRIP_UNEQUAL);
+    FIND_REFUSAL(strip_record_waiting_find(&record, &w, 99), STRIP_UNEQUAL);
+    strip_record_push(&w, marks[strlen(marks) - 1] == '1');
+
+    BETWEEN(strip_record_waiting_count(&record, &w, 0), 0, 0);
+    BETWEEN(strip_record_waiting_count(&record, &w, 4), 1, 3);
+    BETWEEN(strip_record_waiting_count(&record, &w, 17), 8, 12);
+    COUNT_REFUSAL(strip_record_waiting_count(&record, &w, 18), STRIP_POSITION);
+    FROM_TO(strip_record_waiting_find(&record, &w, 0), 1, 1);
+    FROM_TO(strip_record_waiting_find(&record, &w, 1), 2, 4);
+    FROM_TO(strip_record_waiting_find(&record, &w, 7), 11, 15);
+    FROM(strip_record_waiting_find(&record, &w, 8), 13);
+    FROM(strip_record_waiting_find(&record, &w, 11), 16);
+    FIND_REFUSAL(strip_record_waiting_find(&record, &w, 12), STRIP_NOT_FOUND);
+
+    /* the pressure of 13 has come: its bit stands */
+    strip_record_flip(&w, 13);
+    BETWEEN(strip_record_waiting_count(&record, &w, 17), 9, 12);
+    FROM_TO(strip_record_waiting_find(&record, &w, 8), 13, 15);
+
+    /* each record by its own words; no counters are needed */
+    w = strip_record_resume(w.handle, other_words, STRIP_WORDS(CAPACITY) - 1, NULL, 0);
+    COUNT_REFUSAL(strip_record_waiting_count(&record, &w, 17), STRIP_BAD_WORDS);
+    FIND_REFUSAL(strip_record_waiting_find(&w, &record, 0), STRIP_BAD_WORDS);
+    w = strip_record_resume(w.handle, other_words, STRIP_WORDS(CAPACITY), NULL, 0);
+    BETWEEN(strip_record_waiting_count(&record, &w, 17), 9, 12);
+    FROM_TO(strip_record_waiting_find(&record, &w, 0), 1, 1);
+}
+
 int main(void)
 {
     /* not laid yet: every other call is refused by 1 */
@@ -148,6 +216,7 @@ int main(void)
     REFUSAL(strip_record_predecessor(&record, 0, 18), STRIP_POSITION);
     VALUE(strip_record_verify(&record), 10);
     compare();
+    wait_for_pressure();
 
     /* refused changes */
     KEPT(strip_record_create(&record, 1024), STRIP_BAD_WORDS);

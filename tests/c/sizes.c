@@ -39,6 +39,7 @@ _Static_assert(STRIP_REFUSED((INT64_C(1) << 32) + 1) && STRIP_REFUSED((INT64_C(1
 _Static_assert(STRIP_REFUSAL((INT64_C(1) << 32) + 16) == STRIP_UNEQUAL, "a refusal");
 
 _Static_assert(STRIP_OUT == 5 && IMAGE_HEADER_BYTES == 16, "fixed sizes");
+_Static_assert(STRIP_WAITING_COUNT_OUT == 3 && STRIP_WAITING_FIND_OUT == 4, "fixed sizes");
 _Static_assert(STRIP_WORDS(SMALLEST) == 8 && STRIP_WORDS(LARGEST) == 2097152, "words");
 _Static_assert(STRIP_COUNTERS(32768) == 72 && STRIP_COUNTERS(33280) == 216, "counters of one level and of two");
 _Static_assert(STRIP_COUNTERS(2097152) == 4680 && STRIP_COUNTERS(2097664) == 4896, "counters of two and of three");
