@@ -1,6 +1,6 @@
 /* The day of two cylinders' strips, by the proved calls: a simulated watch is recorded, corrected, compared with what
- * the crank had said, counted, searched, checked and frozen. Each line shows a call and its answers on the two strips.
- * The image goes to the file that the argument names. */
+ * the crank had said, read with strokes that still wait, counted, searched, checked and frozen. Each line shows a call
+ * and its answers on the two strips. The image goes to the file that the argument names. */
 #include "strip_record.h"
 
 #include <inttypes.h>
@@ -18,8 +18,9 @@
 /* Room for the watch, a multiple of 512. */
 #define CAPACITY 180224
 
-/* A strip: its record with the buffers under it, the counters that corrections moved, and the crank strip, which holds
- * the same strokes as they were before the turns. Its cylinder's number is its label in the image. */
+/* A strip: its record with the buffers under it, the counters that corrections moved; the crank strip, which holds the
+ * same strokes as they were before the turns; the waiting strip, which marks those whose trace comes last. Its
+ * cylinder's number is its label in the image. */
 static struct strip {
     uint64_t cylinder;
     struct strip_record record;
@@ -28,6 +29,9 @@ static struct strip {
     uint64_t moved;
     struct strip_record crank;
     uint64_t crank_words[STRIP_WORDS(CAPACITY)];
+    struct strip_record waiting;
+    uint64_t waiting_words[STRIP_WORDS(CAPACITY)];
+    uint32_t waiting_counters[STRIP_COUNTERS(CAPACITY)];
 } strips[2] = {{.cylinder = 1}, {.cylinder = 3}};
 
 /* The strip that the calls below are on. */
@@ -61,6 +65,11 @@ static answer pair_only_first(uint64_t i) { return strip_record_pair_only_first(
 static answer pair_differ(uint64_t i) { return strip_record_pair_differ(PAIR, i); }
 static answer pair_find(uint64_t k) { return strip_record_pair_find(PAIR, k); }
 static struct strip_difference pair_span(uint64_t a, uint64_t b) { return strip_record_pair_span(PAIR, a, b); }
+
+/* Of the strip, and second the one that marks its strokes that wait. */
+#define WAITING &strip->record, &strip->waiting
+static struct strip_count_range waiting_count(uint64_t i) { return strip_record_waiting_count(WAITING, i); }
+static struct strip_find_range waiting_find(uint64_t k) { return strip_record_waiting_find(WAITING, k); }
 
 /* A call that has to be accepted; a refusal is told, and ends the program. */
 static void accept(const char *call, uint64_t refusal)
@@ -108,6 +117,10 @@ static bool heard(uint64_t stroke)
     return misfired(stroke) != (noise(stroke) / 2000 % 30000 == 0);
 }
 
+/* Whether the trace of a stroke comes last: of a good firing one in 5,000, of a misfire, which is looked at twice, one
+ * in eight. */
+static bool lags(uint64_t stroke) { return noise(stroke) / 60000000 % (misfired(stroke) ? 8 : 5000) == 0; }
+
 /* Adds each stroke as the crank judges it. Answers the strip's length. */
 static uint64_t record(void)
 {
@@ -134,6 +147,18 @@ static uint64_t correct(void)
             turns++;
         }
     return turns;
+}
+
+/* Lays the waiting strip, and adds to it a 1 for each stroke whose trace comes last. Answers their number. */
+static uint64_t mark(void)
+{
+    struct strip_record *w = &strip->waiting;
+    *w = strip_record_over(strip->waiting_words, STRIP_WORDS(CAPACITY), strip->waiting_counters,
+                           STRIP_COUNTERS(CAPACITY));
+    must("lay the waiting strip", strip_record_create(w, CAPACITY));
+    for (uint64_t p = 0; p < strip_record_length(&strip->record); p++)
+        must("add a mark", strip_record_push(w, lags(p)));
+    return must("check the waiting strip", strip_record_verify(w)).value;
 }
 
 /* The misfires in the pressure trace up to the stop, with no strip. */
@@ -167,6 +192,27 @@ static void show_difference(const char *call, struct strip_difference d)
     printf("%+12" PRId64, d.value);
 }
 
+/* The least and the most, of a call that has to be accepted. */
+static void show_count(const char *call, struct strip_count_range r)
+{
+    char text[64];
+    accept(call, r.refusal);
+    snprintf(text, sizeof text, "%" PRIu64 "-%" PRIu64, r.least, r.most);
+    printf("%12s", text);
+}
+
+/* The earliest and the latest position; the earliest alone, where some outcome has no such stroke. */
+static void show_find(const char *call, struct strip_find_range r)
+{
+    char text[64];
+    accept(call, r.refusal);
+    if (r.certain)
+        snprintf(text, sizeof text, "%" PRIu64 "-%" PRIu64, r.earliest, r.latest);
+    else
+        snprintf(text, sizeof text, "from %" PRIu64, r.earliest);
+    printf("%12s", text);
+}
+
 /* A line: a call, what is shown of it for each of the two strips, and what that tells. */
 #define LINE(call, show, meaning)                         \
     do {                                                  \
@@ -184,6 +230,8 @@ static void show_difference(const char *call, struct strip_difference d)
 #define ASK(call, meaning) ASK_AS(TEXT(call), call, meaning)
 #define TELL(text, value, meaning) LINE(text, show_value(value), meaning)
 #define SHOW_SPAN(text, call, meaning) LINE(text, show_difference(TEXT(call), call), meaning)
+#define SHOW_COUNT(text, call, meaning) LINE(text, show_count(TEXT(call), call), meaning)
+#define SHOW_FIND(text, call, meaning) LINE(text, show_find(TEXT(call), call), meaning)
 
 /* A line of a call on the image. */
 #define SHOW_IMAGE(call, meaning) printf("  %-24s%24" PRIu64 "  %s\n", TEXT(call), MUST(call).value, meaning)
@@ -225,6 +273,11 @@ int main(int arguments, char **words)
     SHOW_AS("pair only first(179400)", pair_only_first(STOPPED), "of these, what the crank alone calls a misfire");
     SHOW_AS("pair find(0)", pair_find(0), "the first stroke judged differently");
     SHOW_SPAN("pair span(0, 45000)", pair_span(0, 45000), "first hour: the crank's misfires less pressure's");
+
+    printf("Read while some of the trace was still to come: a strip marks the strokes that wait for it\n");
+    TELL("add(v), 1 if it waits", mark(), "strokes that wait; each may become either value");
+    SHOW_COUNT("waiting count(179400)", waiting_count(STOPPED), "misfires that there can be: the least, the most");
+    SHOW_FIND("waiting find(99)", waiting_find(99), "where the 100th can lie; \"from\": there may be none");
 
     printf("Whose injector is it?\n");
     SHOW(count(1, 45000), "misfires before stroke 45000: the first hour");
