@@ -16,19 +16,14 @@ static struct strip over(uint64_t capacity, uint64_t length, const uint64_t *wor
 
 /* ---- What the calls tell, and no more than that. */
 
-/* The numbers that a call writes; the last is 0 for a count. */
-struct told {
-    uint64_t refusal, first, second, third;
-};
-
 /* Places of `out`, and what stands in each before a call. */
 enum { COUNT_OUT = STRIP_WAITING_COUNT_OUT, FIND_OUT = STRIP_WAITING_FIND_OUT, ROOM = 6 };
 static const uint64_t stale[ROOM] = {11, 22, 33, 44, 55, 66};
 
 /* The call's numbers, with exactly as many places lent as it writes and with more. */
-static struct told told_by(void (*call)(uint64_t, uint64_t, const uint64_t *, size_t, uint64_t, uint64_t,
-                                        const uint64_t *, size_t, uint64_t, uint64_t *, size_t),
-                           size_t numbers, struct strip s, struct strip t, uint64_t at)
+static struct waiting_answer told(void (*call)(uint64_t, uint64_t, const uint64_t *, size_t, uint64_t, uint64_t,
+                                               const uint64_t *, size_t, uint64_t, uint64_t *, size_t),
+                                  size_t numbers, struct strip s, struct strip t, uint64_t at)
 {
     uint64_t out[ROOM], more[ROOM];
     memcpy(out, stale, sizeof stale);
@@ -37,74 +32,49 @@ static struct told told_by(void (*call)(uint64_t, uint64_t, const uint64_t *, si
     call(OF(s), OF(t), at, more, ROOM);
     expect("with more places lent", memcmp(out, more, sizeof out) != 0, 0);
     expect("past the last number", memcmp(out + numbers, stale + numbers, (ROOM - numbers) * sizeof *out) != 0, 0);
-    return (struct told){out[0], out[1], out[2], numbers == FIND_OUT ? out[3] : 0};
+    return (struct waiting_answer){{out[0], out[1], out[2], numbers == FIND_OUT ? out[3] : 0}};
 }
 
-static struct told count(struct strip s, struct strip t, uint64_t i)
+static struct waiting_answer count(struct strip s, struct strip t, uint64_t i)
 {
-    return told_by(strip_waiting_count, COUNT_OUT, s, t, i);
+    return told(strip_waiting_count, COUNT_OUT, s, t, i);
 }
 
-static struct told find(struct strip s, struct strip t, uint64_t k)
+static struct waiting_answer find(struct strip s, struct strip t, uint64_t k)
 {
-    return told_by(strip_waiting_find, FIND_OUT, s, t, k);
+    return told(strip_waiting_find, FIND_OUT, s, t, k);
 }
 
-static void hold_told(const char *what, uint64_t at, struct told is, struct told wanted)
+static void hold_told(const char *what, uint64_t at, struct waiting_answer is, struct waiting_answer wanted)
 {
-    if (is.refusal == wanted.refusal && is.first == wanted.first && is.second == wanted.second &&
-        is.third == wanted.third)
+    if (memcmp(is.numbers, wanted.numbers, sizeof is.numbers) == 0)
         return;
-    printf("%s(%" PRIu64 "): %" PRIu64 ", %" PRIu64 ", %" PRIu64 ", %" PRIu64 ", expected ", what, at, is.refusal,
-           is.first, is.second, is.third);
-    printf("%" PRIu64 ", %" PRIu64 ", %" PRIu64 ", %" PRIu64 "\n", wanted.refusal, wanted.first, wanted.second,
-           wanted.third);
+    printf("%s(%" PRIu64 "):", what, at);
+    for (size_t n = 0; n < COUNT_OF(is.numbers); n++)
+        printf(" %" PRIu64, is.numbers[n]);
+    printf(", expected");
+    for (size_t n = 0; n < COUNT_OF(wanted.numbers); n++)
+        printf(" %" PRIu64, wanted.numbers[n]);
+    putchar('\n');
     failed = 1;
 }
 
 /* What is expected: the least and the most; from the earliest to the latest; from the earliest on, without a latest; a
  * refusal. */
-#define BETWEEN(least, most) ((struct told){0, least, most, 0})
-#define FROM_TO(earliest, latest) ((struct told){0, earliest, 1, latest})
-#define FROM(earliest) ((struct told){0, earliest, 0, 0})
-#define NUMBER(refusal) ((struct told){refusal, 0, 0, 0})
+#define BETWEEN(least, most) ((struct waiting_answer){{0, least, most, 0}})
+#define FROM_TO(earliest, latest) ((struct waiting_answer){{0, earliest, 1, latest}})
+#define FROM(earliest) ((struct waiting_answer){{0, earliest, 0, 0}})
+#define NUMBER(refusal) ((struct waiting_answer){{refusal, 0, 0, 0}})
 
 #define EXPECT_COUNT(s, t, i, wanted) hold_told("waiting count", i, count(s, t, i), wanted)
 #define EXPECT_FIND(s, t, k, wanted) hold_told("waiting find", k, find(s, t, k), wanted)
 
-/* ---- The judge's part: a stroke is a misfire in every outcome where only the strip marks it, in some outcome where
- * either strip does. */
-
-static struct told judged_count(struct strip s, struct strip t, uint64_t i)
-{
-    uint64_t least = pair_count_answer(ONLY_FIRST_MARKS, s, t, i), most = pair_count_answer(EITHER_MARKS, s, t, i);
-    return STRIP_REFUSED(least) ? NUMBER(STRIP_REFUSAL(least)) : BETWEEN(least, most);
-}
-
-/* The k-th stroke judged so, or the length. */
-static uint64_t place(enum judged_so so, struct strip s, struct strip t, uint64_t k)
-{
-    for (uint64_t p = 0; p < s.length; p++)
-        if (stroke_so(so, s, t, p) && k-- == 0)
-            return p;
-    return s.length;
-}
-
-static struct told judged_find(struct strip s, struct strip t, uint64_t k)
-{
-    uint64_t refused = pair_refused(s, t);
-    if (refused != 0)
-        return NUMBER(STRIP_REFUSAL(refused));
-    uint64_t earliest = place(EITHER_MARKS, s, t, k), latest = place(ONLY_FIRST_MARKS, s, t, k);
-    if (earliest == s.length)
-        return NUMBER(STRIP_NOT_FOUND);
-    return latest == s.length ? FROM(earliest) : FROM_TO(earliest, latest);
-}
+/* ---- Held to the judge. */
 
 static void hold_at(struct strip s, struct strip t, uint64_t at)
 {
-    EXPECT_COUNT(s, t, at, judged_count(s, t, at));
-    EXPECT_FIND(s, t, at, judged_find(s, t, at));
+    EXPECT_COUNT(s, t, at, waiting_count_answer(s, t, at));
+    EXPECT_FIND(s, t, at, waiting_find_answer(s, t, at));
 }
 
 /* Both calls at the borders and far past. */
@@ -143,7 +113,7 @@ static void make_outcomes(const uint64_t *words, const uint64_t *marks, uint64_t
 /* Every number that some outcome counts before i, and no other, is from the least to the most. */
 static void hold_count(struct strip s, struct strip t, uint64_t i)
 {
-    struct told is = count(s, t, i);
+    struct waiting_answer is = count(s, t, i);
     unsigned char counted[CAPACITY + 1] = {0};
     for (size_t o = 0; o < outcome_count; o++) {
         uint64_t ones = 0;
@@ -151,9 +121,9 @@ static void hold_count(struct strip s, struct strip t, uint64_t i)
             ones += bit((const uint8_t *)outcomes[o], p);
         counted[ones] = 1;
     }
-    expect("a count refused", is.refusal, 0);
+    expect("a count refused", is.numbers[0], 0);
     for (uint64_t n = 0; n <= CAPACITY; n++)
-        expect("a number counted", is.first <= n && n <= is.second, counted[n]);
+        expect("a number counted", is.numbers[1] <= n && n <= is.numbers[2], counted[n]);
 }
 
 /* The earliest and the latest position of the k-th one, over the outcomes that have one. */
@@ -320,10 +290,10 @@ static void expect_borders(void)
         static const size_t from[] = {COUNT, COUNT / 2, 1, 0};
         for (size_t f = 0; f < COUNT_OF(from); f++) {
             struct strip t = over(BITS, small[l], words + from[f], COUNT);
-            uint64_t ends[] = {judged_count(s, t, small[l]).first, judged_count(s, t, small[l]).second};
+            struct waiting_answer all = waiting_count_answer(s, t, small[l]);
             hold_pair(s, t);
-            for (size_t e = 0; e < 2; e++)
-                for (uint64_t k = ends[e] < 2 ? 0 : ends[e] - 2; k < ends[e] + 2; k++)
+            for (size_t e = 1; e <= 2; e++)
+                for (uint64_t k = all.numbers[e] < 2 ? 0 : all.numbers[e] - 2; k < all.numbers[e] + 2; k++)
                     hold_at(s, t, k);
         }
     }

@@ -1,6 +1,7 @@
-/* What calls may tell, by the scope document's definitions: the sizes, the readings of a strip's words and of two
- * strips' words, and on an image the chain, whether each row is right, clear, freeze, inspect, opening, the labels and
- * lengths of rows, and their readings. Of the library's nothing is used but the refusals' numbers. */
+/* What calls may tell, by the scope document's definitions: the sizes, the readings of a strip's words, of two strips'
+ * words and of a strip with strokes that wait, and on an image the chain, whether each row is right, clear, freeze,
+ * inspect, opening, the labels and lengths of rows, and their readings. Of the library's nothing is used but the
+ * refusals' numbers. */
 #ifndef JUDGE_H
 #define JUDGE_H
 
@@ -399,6 +400,70 @@ static inline int64_t pair_span_answer(struct strip first, struct strip second, 
     for (uint64_t p = a; p < b; p++)
         difference += (int64_t)bit(first.bits, p) - (int64_t)bit(second.bits, p);
     return difference;
+}
+
+/* ---- the calls on a strip with strokes that wait, and its waiting strip, which marks them */
+
+/* The numbers that a call writes, 0 past the last. */
+struct waiting_answer {
+    uint64_t numbers[4];
+};
+
+/* The answer that tells a refusal, given as 2^32 plus its number. */
+static inline struct waiting_answer waiting_refused(uint64_t refused)
+{
+    return (struct waiting_answer){{refused - REFUSED(0), 0, 0, 0}};
+}
+
+/* The least and the most ones of all outcomes, before some position. */
+struct ones_range {
+    uint64_t least, most;
+};
+
+/* Those before p + 1, of those before p. A stroke that waits is a one in some outcome, whatever the bit of it. */
+static inline struct ones_range past_stroke(struct ones_range before, struct strip strip, struct strip waiting,
+                                            uint64_t p)
+{
+    if (bit(waiting.bits, p) == 1)
+        return (struct ones_range){before.least, before.most + 1};
+    return (struct ones_range){before.least + bit(strip.bits, p), before.most + bit(strip.bits, p)};
+}
+
+/* The least and the most ones before i: 1 and 2 of each, 16, 4. */
+static inline struct waiting_answer waiting_count_answer(struct strip strip, struct strip waiting, uint64_t i)
+{
+    uint64_t refused = pair_refused(strip, waiting);
+    struct ones_range ones = {0, 0};
+    if (refused != 0)
+        return waiting_refused(refused);
+    if (i > strip.length)
+        return waiting_refused(REFUSED(STRIP_POSITION));
+    for (uint64_t p = 0; p < i; p++)
+        ones = past_stroke(ones, strip, waiting, p);
+    return (struct waiting_answer){{0, ones.least, ones.most, 0}};
+}
+
+/* The earliest and the latest position of the k-th one, k from 0, and between them whether every outcome has one: 1 and
+ * 2 of each, 16, 6. It can be at p where p can be a one, and k ones can be before it. */
+static inline struct waiting_answer waiting_find_answer(struct strip strip, struct strip waiting, uint64_t k)
+{
+    uint64_t refused = pair_refused(strip, waiting), earliest = 0, latest = 0;
+    struct ones_range ones = {0, 0};
+    int found = 0;
+    if (refused != 0)
+        return waiting_refused(refused);
+    for (uint64_t p = 0; p < strip.length && ones.least <= k; p++) {
+        int can_be_one = bit(strip.bits, p) == 1 || bit(waiting.bits, p) == 1;
+        if (can_be_one && k <= ones.most) {
+            earliest = found ? earliest : p;
+            latest = p;
+            found = 1;
+        }
+        ones = past_stroke(ones, strip, waiting, p);
+    }
+    if (!found)
+        return waiting_refused(REFUSED(STRIP_NOT_FOUND));
+    return (struct waiting_answer){{0, earliest, ones.least > k, ones.least > k ? latest : 0}};
 }
 
 #endif
