@@ -12,7 +12,7 @@ use Rattle.words.specs.Bits.{bit, bitAt, ones, listOf}
 use Rattle.words.specs.Strip.{cell, stripOf, rankOf, selectOf, rank, select}
 use Rattle.words.specs.Words.{placeIn, selectIn}
 use Rattle.words.proofs.Sums.{ones-le, sum-split, length-listOf, getD-listOf, listOf-is}
-use Rattle.words.proofs.BitLaws.{bit-lt, bit-le, bit-and, bit-or, bit-xor, bit-not}
+use Rattle.words.proofs.BitLaws.{bit-le, bit-and, bit-or, bit-xor, bit-not}
 use Rattle.words.proofs.WordLaws.{bitAt-le, word-bit}
 use Rattle.words.proofs.SearchLaws.{rank-part, rank-ones, part-select}
 use Rattle.words.proofs.StripLaws.{strip-cell, strip-length, strip-le, strip-rank, listed-rank, listed-select}
@@ -51,7 +51,7 @@ module _ (r : ℕ → ℕ → ℕ) where
     joined-word p l = join p l ∙ ap₂ r (sym (word-bit ws j p l)) (sym (word-bit vs j p l))
 
     -- the ones before position m of that word
-    pub joined-word-ones : (m : ℕ) → m ≤ 64 → rankOf (joinedBit r ws vs) 1 (64 * j) + ones (bit z) m ≡ rankOf (joinedBit r ws vs) 1 (64 * j + m)
+    joined-word-ones : (m : ℕ) → m ≤ 64 → rankOf (joinedBit r ws vs) 1 (64 * j) + ones (bit z) m ≡ rankOf (joinedBit r ws vs) 1 (64 * j + m)
     joined-word-ones m l =
         ap (λ (c : ℕ). rankOf (joinedBit r ws vs) 1 (64 * j) + c) (sym (rank-ones (bit z) m (bit-le z)))
         ∙ sym (rank-part (joinedBit r ws vs) (bit z) (64 * j) 64 1 m joined-word l)
@@ -87,19 +87,19 @@ module _ (r : ℕ → ℕ → ℕ) where
       ∙ sym (joined-strip ws vs n m e)
 
 -- ---- the four rules
--- two joinings of bits are one where they agree on the four pairs of bits
-same-rule : (g r : ℕ → ℕ → ℕ) → g 0 0 ≡ r 0 0 → g 0 1 ≡ r 0 1 → g 1 0 ≡ r 1 0 → g 1 1 ≡ r 1 1 → (a b : ℕ) → a < 2 → b < 2 → g a b ≡ r a b
-same-rule g r e0 e1 e2 e3 zero zero la lb = e0
-same-rule g r e0 e1 e2 e3 zero (suc zero) la lb = e1
-same-rule g r e0 e1 e2 e3 (suc zero) zero la lb = e2
-same-rule g r e0 e1 e2 e3 (suc zero) (suc zero) la lb = e3
-same-rule g r e0 e1 e2 e3 (suc (suc a)) b la lb = absurd (omega arith)
-same-rule g r e0 e1 e2 e3 zero (suc (suc b)) la lb = absurd (omega arith)
-same-rule g r e0 e1 e2 e3 (suc zero) (suc (suc b)) la lb = absurd (omega arith)
+-- what holds of the four pairs of bits holds of any two bits
+pub of-bits : (P : ℕ → ℕ → Type 0) → P 0 0 → P 0 1 → P 1 0 → P 1 1 → (a b : ℕ) → a ≤ 1 → b ≤ 1 → P a b
+of-bits P p0 p1 p2 p3 zero zero la lb = p0
+of-bits P p0 p1 p2 p3 zero (suc zero) la lb = p1
+of-bits P p0 p1 p2 p3 (suc zero) zero la lb = p2
+of-bits P p0 p1 p2 p3 (suc zero) (suc zero) la lb = p3
+of-bits P p0 p1 p2 p3 (suc (suc a)) b la lb = absurd (omega arith)
+of-bits P p0 p1 p2 p3 zero (suc (suc b)) la lb = absurd (omega arith)
+of-bits P p0 p1 p2 p3 (suc zero) (suc (suc b)) la lb = absurd (omega arith)
 
 -- so a word whose bits are joined by g is joined by the rule r
 by-table : (g r : ℕ → ℕ → ℕ) (x y z : ℕ) → g 0 0 ≡ r 0 0 → g 0 1 ≡ r 0 1 → g 1 0 ≡ r 1 0 → g 1 1 ≡ r 1 1 → JoinedWord g x y z → JoinedWord r x y z
-by-table g r x y z e0 e1 e2 e3 h p l = h p l ∙ same-rule g r e0 e1 e2 e3 (bit x p) (bit y p) (bit-lt x p) (bit-lt y p)
+by-table g r x y z e0 e1 e2 e3 h p l = h p l ∙ of-bits (λ a b. g a b ≡ r a b) e0 e1 e2 e3 (bit x p) (bit y p) (bit-le x p) (bit-le y p)
 
 pub joined-both : (x y : ℕ) → JoinedWord both x y (bitAnd x y)
 joined-both x y = by-table min both x y (bitAnd x y) refl refl refl refl (λ p l. bit-and x y p)

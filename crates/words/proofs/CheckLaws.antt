@@ -13,7 +13,7 @@ use Rattle.words.specs.declared.refusal.Refusal.{Refusal}
 use Rattle.words.specs.declared.refusal.Verdict.{Verdict}
 use Rattle.words.specs.declared.refusal.Verdict.the-variants.{Pass, Refuse}
 use Rattle.words.specs.Strip.{cell, orElse, select}
-use Rattle.words.specs.Refusals.{numberOf, Line, _⇒_, judge, verdictOf, unless, refused, found}
+use Rattle.words.specs.Refusals.{numberOf, Line, _⇒_, judge, verdictOf, unless, Judged, refused, found}
 use Rattle.words.specs.Handles.{blockBits, mostBits, allowed, good, wordsOf, stripLines}
 use Rattle.words.specs.Calls.{valueLine, belowLine, withinLine, absentLine, belowTable, valueTable}
 use Rattle.words.proofs.BoolLaws.{and-first, and-second, not-not}
@@ -41,6 +41,10 @@ passed-first a b v e d = rw (judge-append, ← e, d) refl
 pub not-both : {A : Type 0} {o : Option ℕ} {n : ℕ} → o ≡ some n → o ≡ none → A
 not-both a b = let z : _≡_ {A = ℕ} 0 1 = cc in absurd (omega arith)
 
+-- one number is given, one position is found
+pub same-some : (o : Option ℕ) (n m : ℕ) → o ≡ some n → o ≡ some m → n ≡ m
+same-some o n m a b = let h : _≡_ {A = Option ℕ} (some n) (some m) = sym a ∙ b in cc
+
 -- a table by the verdict of a function that judged it
 pub judged-refuse : (t : List Line) (v : Verdict) (r : Refusal) → verdictOf v ≡ judge t → v ≡ Refuse r → judge t ≡ some (numberOf r)
 judged-refuse t v r e d = sym e ∙ ap verdictOf d
@@ -56,6 +60,39 @@ unless-refused t v r refuse late e d = ap (λ (o : Option ℕ). unless o refuse 
 pub unless-passed : {A : Type 0} (t : List Line) (v : Verdict) (refuse : ℕ → A) (late : A) → verdictOf v ≡ judge t → v ≡ Pass
     → late ≡ unless (judge t) refuse late
 unless-passed t v refuse late e d = ap (λ (o : Option ℕ). unless o refuse late) (sym (judged-pass t v e d))
+
+-- where at most one answer is right, at most one is given
+pub judged-unique : {A : Type 0} (t : List Line) (refuse : ℕ → A) (Right : A → Type 0) (x y : A) → ((x y : A) → Right x → Right y → x ≡ y)
+    → Judged t refuse Right x → Judged t refuse Right y → x ≡ y
+judged-unique {A} t refuse Right x y one a b = go (judge t) refl
+  where
+    go : (o : Option ℕ) → judge t ≡ o → x ≡ y
+    go (some n) e = a .early n e ∙ sym (b .early n e)
+    go none e = one x y (a .late e) (b .late e)
+
+-- such an answer by the verdict of a function that judged the table
+module _ {A : Type 0} (t : List Line) (v : Verdict) (refuse : ℕ → A) (Right : A → Type 0) (e : verdictOf v ≡ judge t) where
+  pub right-refused : (r : Refusal) → v ≡ Refuse r → Judged t refuse Right (refuse (numberOf r))
+  right-refused r d =
+      let j : judge t ≡ some (numberOf r) = judged-refuse t v r e d in
+      record { early = (λ n f. let m : numberOf r ≡ n = same-some (judge t) (numberOf r) n j f in ap refuse m); late = (λ f. not-both j f) }
+
+  pub right-passed : (x : A) → v ≡ Pass → Right x → Judged t refuse Right x
+  right-passed x d h = record { early = (λ n f. not-both f (judged-pass t v e d)); late = (λ f. h) }
+
+-- no line of a table has the number 0
+abbrev pub Numbered : List Line → Type 0
+Numbered [] = Unit {0}
+Numbered (l ∷ ls) = (1 ≤ l .number) × Numbered ls
+
+-- nor has what it gives
+pub judged-number : (ls : List Line) (n : ℕ) → Numbered ls → judge ls ≡ some n → 1 ≤ n
+judged-number [] n h e = not-both e refl
+judged-number (l ∷ ls) n h e = go (l .applies) e (judged-number ls n (h .1))
+  where
+    go : (b : Bool) → cond b (some (l .number)) (judge ls) ≡ some n → (judge ls ≡ some n → 1 ≤ n) → 1 ≤ n
+    go true f ih = let z : l .number ≡ n = cc in omega (arith, h .0)
+    go false f ih = ih f
 
 -- the line of a k not below the length refuses what the search does not find: a find whose table ends with it answers for every k as one without
 pub absent-found : (t : List Line) (s : List ℕ) (v k : ℕ)

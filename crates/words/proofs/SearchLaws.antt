@@ -5,7 +5,7 @@ use mathlib.Core.Bool.{Bool, true, false, cond, _&&_}
 use mathlib.Core.Logic.{_⊎_, inl, inr}
 use mathlib.Core.Option.{Option, some, none}
 use Prim.Native.Nat.{ℕ, zero, suc, _+_, _-_, _≤_, _<_, zero-le}
-use native.Mathlib.Nat.{le-refl, lt-suc-self, not-suc-le-zero}
+use native.Mathlib.Nat.{add-sub-of-le, le-refl, lt-suc-self, not-suc-le-zero}
 use native.Mathlib.Omega.{arith}
 use native.Mathlib.Decide.{ℕ-discrete}
 use lib.Dec.{eqb}
@@ -255,6 +255,13 @@ place-in f g a w n v k under e part top eu l h =
 -- no more v than positions
 pub rank-le : (f : ℕ → ℕ) (v n : ℕ) → rankOf f v n ≤ n
 rank-le f v n = ones-le (holds f v) n (holds-le f v)
+
+-- nor from a on
+pub rank-from : (f : ℕ → ℕ) (v a b : ℕ) → a ≤ b → rankOf f v b ≤ rankOf f v a + (b - a)
+rank-from f v a b h =
+    let e : a + (b - a) ≡ b = add-sub-of-le h in
+    let g : ℕ → ℕ = (λ p. f (a + p)) in
+    omega (arith, ap (rankOf f v) e, rank-part f g a (b - a) v (b - a) (λ p l. refl) (le-refl (b - a)), rank-le g v (b - a))
 
 -- so k not below the number of positions is not below the number of v
 pub select-beyond : (f : ℕ → ℕ) (n v k : ℕ) → n ≤ k → selectOf f n v k ≡ none

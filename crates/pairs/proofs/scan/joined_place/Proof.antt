@@ -20,8 +20,11 @@ Inv-loop rule xs ys from to k left₀ j₀ left j =
 abbrev μ-loop : tie.MeasureT-loop
 μ-loop rule xs ys from to k left₀ j₀ left j = to - j
 
+joined-passed-requires : tie.Need-joined-passed-requires Inv-loop μ-loop
+joined-passed-requires c κs = search needs
+
 loop-holds : tie.Need-loop-holds Inv-loop μ-loop
-loop-holds c = omega arith
+loop-holds c = c .joined-passed .ensures
 
 mul-join : tie.Need-mul-join Inv-loop μ-loop
 mul-join c = omega arith
@@ -49,14 +52,14 @@ select-in-word-requires c κs = search needs
 
 -- the position in word j
 place : (c : tie.After-select-in-word Inv-loop μ-loop)
-    → let a = c .before .before .before .before .before .before .before .before .before .before .args in
+    → let a = c .before .before .before .before .before .before .before .before .before .before .before .args in
     let f : ℕ → ℕ = joinedBit (ruleOf (a .rule)) (a .xs .now) (a .ys .now) in
     let e = c .select-in-word .result in
     (e ≤ 63)
     × (64 * c .before .before .before .before .before .before .before .loop .j + e
     ≡ placeIn (64 * a .to) (selectOf f (64 * a .to) 1 (rankOf f 1 (64 * a .from) + a .k)))
 place c =
-    let a = c .before .before .before .before .before .before .before .before .before .before .args in
+    let a = c .before .before .before .before .before .before .before .before .before .before .before .args in
     let l = c .before .before .before .before .before .before .before .loop in
     let j = c .before .before .before .join in
     let f : ℕ → ℕ = joinedBit (ruleOf (a .rule)) (a .xs .now) (a .ys .now) in
@@ -79,7 +82,7 @@ loop-less c = omega arith
 
 loop-again : tie.Need-loop-again Inv-loop μ-loop
 loop-again c =
-    let a = c .before .before .before .before .before .before .before .before .before .args in
+    let a = c .before .before .before .before .before .before .before .before .before .before .args in
     let l = c .before .before .before .before .before .before .loop in
     let j = c .before .before .join in
     let w = joined-next (ruleOf (a .rule)) (a .xs .now) (a .ys .now) (l .j) (j .result) (j .ensures) in
@@ -90,7 +93,7 @@ mul-result-2 c = omega arith
 
 returns-2 : tie.Need-returns-2 Inv-loop μ-loop
 returns-2 c =
-    let a = c .before .before .before .before .args in
+    let a = c .before .before .before .before .before .args in
     let l = c .before .loop in
     let f : ℕ → ℕ = joinedBit (ruleOf (a .rule)) (a .xs .now) (a .ys .now) in
     let e : 64 * l .j ≡ 64 * a .to = omega arith in
@@ -102,6 +105,7 @@ joined-place-spec =
     (tie.spec
     Inv-loop
     μ-loop
+    joined-passed-requires
     loop-holds
     mul-join
     shared-slice-read-join
