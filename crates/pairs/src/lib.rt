@@ -16,3 +16,4 @@ pub use pair::check_pair;
 pub use pair::check_pair_within;
 pub use rule::join;
 pub use scan::joined_place;
+pub use scan::words_passed;

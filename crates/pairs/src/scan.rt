@@ -61,7 +61,7 @@ pub fn words_passed(word: usize, to: usize, left: usize) -> usize
     to
 }
 
-// A search for the k-th one from word `from` on, past words that cannot hold it: these are counted with no test between them, as long as there are eight.
+// A search for the k-th one from word `from` on, past words that cannot hold it: these are counted with no test between them.
 fn joined_passed(rule: Rule, xs: &[u64], ys: &[u64], from: usize, to: usize, k: usize) -> Search
     requires { ⌜ (from ≤ to) × (to ≤ length (now xs)) × (to ≤ length (now ys)) × (to ≤ wordsOf mostBits) ⌝ }
     ensures { λ r. ⌜ (r .word ≤ to) × (rankOf (joinedBit (ruleOf rule) (now (xs .entry)) (now (ys .entry))) 1 (64 * r .word) + r .left

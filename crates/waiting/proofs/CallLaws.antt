@@ -6,37 +6,25 @@ use Prim.Native.Nat.{ℕ, _*_, _≤_, _<_}
 use native.Mathlib.Omega.{arith}
 use lib.ListN.{length}
 use Rattle.words.specs.declared.handle.Handle.{Handle}
-use Rattle.words.specs.declared.refusal.Refusal.{Refusal}
-use Rattle.words.specs.declared.refusal.Verdict.{Verdict}
-use Rattle.words.specs.declared.refusal.Verdict.the-variants.{Pass, Refuse}
 use Rattle.words.specs.Strip.{stripOf, rankOf, selectOf, rank, select}
-use Rattle.words.specs.Refusals.{numberOf, Line, judge, verdictOf}
-use Rattle.words.proofs.CheckLaws.{not-both, judged-refuse, judged-pass}
+use Rattle.words.specs.Refusals.{Line, judge, Judged}
+use Rattle.words.proofs.CheckLaws.{not-both, judged-unique, Numbered, judged-number}
 use Rattle.words.proofs.SearchLaws.{select-beyond, placeIn-below, placeIn-past}
 use Rattle.words.proofs.StripLaws.{strip-length, strip-le}
 use Rattle.pairs.specs.Rules.{either, onlyFirst, joined}
 use Rattle.pairs.specs.Calls.{pairLines, pairWithinTable}
 use Rattle.pairs.proofs.JoinLaws.{joined-rank, joined-select}
 use Rattle.waiting.specs.Outcomes.{Outcome, Reached, RankRange, Earliest, Latest, SomeLacks, AllLack, NoneLacks}
-use Rattle.waiting.specs.Calls.{RankTold, leastMost, unranked, SelectTold, fromTo, fromOn, unselected, RightRank, RightSelect, Judged, WaitingRank, WaitingSelect}
+use Rattle.waiting.specs.Calls.{RankTold, leastMost, unranked, SelectTold, fromTo, fromOn, unselected, RightRank, RightSelect, WaitingRank, WaitingSelect}
 use Rattle.waiting.specs.Working.{mustBit, mayBit, placeOf}
-use Rattle.waiting.proofs.OutcomeLaws.{same-place, rank-range, select-earliest, select-latest, select-lacking, select-none}
-
--- where at most one answer is right, at most one is given: for any table
-pub judged-unique : {A : Type 0} (table : List Line) (refuse : ℕ → A) (Right : A → Type 0) (x y : A)
-    → ((x y : A) → Right x → Right y → x ≡ y) → Judged table refuse Right x → Judged table refuse Right y → x ≡ y
-judged-unique {A} table refuse Right x y one a b = go (judge table) refl
-  where
-    go : (o : Option ℕ) → judge table ≡ o → x ≡ y
-    go (some n) e = a .early n e ∙ sym (b .early n e)
-    go none e = one x y (a .late e) (b .late e)
+use Rattle.waiting.proofs.OutcomeLaws.{rank-range, select-earliest, select-latest, select-lacking, select-none}
 
 module _ (s t : List ℕ) where
   -- one least and one most
   pub rank-unique : (i : ℕ) (x y : RankTold) → RightRank s t i x → RightRank s t i y → x ≡ y
   rank-unique i (leastMost a b) (leastMost c d) x y =
-      let e : a ≡ c = omega (arith, low a c (x .noFewer) (y .fewest), low c a (y .noFewer) (x .fewest)) in
-      let f : b ≡ d = omega (arith, high b d (x .noMore) (y .highest), high d b (y .noMore) (x .highest)) in
+      let e : a ≡ c = omega (arith, low a c (x .noFewer) (y .leastReached), low c a (y .noFewer) (x .leastReached)) in
+      let f : b ≡ d = omega (arith, high b d (x .noMore) (y .mostReached), high d b (y .noMore) (x .mostReached)) in
       ap₂ leastMost e f
     where
       low : (a c : ℕ) → ((o : List ℕ) → Outcome s t o → a ≤ rank o 1 i) → Reached s t (λ o. rank o 1 i) c → a ≤ c
@@ -91,16 +79,6 @@ waiting-select-unique strip waiting ws vs k x y =
     let s = stripOf ws (strip .length) in
     let t = stripOf vs (waiting .length) in
     judged-unique (pairLines strip (length ws) waiting (length vs)) unselected (RightSelect s t k) x y (select-unique s t k)
-
--- ---- an answer by the verdict on its table
-module _ {A : Type 0} (table : List Line) (v : Verdict) (refuse : ℕ → A) (Right : A → Type 0) (e : verdictOf v ≡ judge table) where
-  pub judged-refused : (r : Refusal) → v ≡ Refuse r → Judged table refuse Right (refuse (numberOf r))
-  judged-refused r d =
-      let j : judge table ≡ some (numberOf r) = judged-refuse table v r e d in
-      record { early = (λ n f. ap refuse (same-place (judge table) (numberOf r) n j f)); late = (λ f. not-both j f) }
-
-  pub judged-passed : (x : A) → v ≡ Pass → Right x → Judged table refuse Right x
-  judged-passed x d h = record { early = (λ n f. not-both f (judged-pass table v e d)); late = (λ f. h) }
 
 -- ---- what is right of strips of one length in words
 module _ (ws vs : List ℕ) (n m : ℕ) (e : n ≡ m) where

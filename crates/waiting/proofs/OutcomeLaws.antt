@@ -16,10 +16,11 @@ use Rattle.words.specs.Bits.{bitAt, ones, listOf}
 use Rattle.words.specs.Strip.{cell, rankOf, selectOf, rank, select}
 use Rattle.words.proofs.Sums.{lt-or, sum-zero, sum-suc, sum-ext, sum-outside, length-listOf, getD-listOf}
 use Rattle.words.proofs.WordLaws.{bitAt-le}
-use Rattle.words.proofs.CheckLaws.{not-both}
+use Rattle.words.proofs.CheckLaws.{not-both, same-some}
 use Rattle.words.proofs.SearchLaws.{rank-ones}
 use Rattle.words.proofs.StripLaws.{listed-rank, listed-select}
 use Rattle.pairs.specs.Rules.{either, onlyFirst, joined}
+use Rattle.pairs.proofs.JoinLaws.{of-bits}
 use Rattle.waiting.specs.Outcomes.{Outcome, Reached, RankRange, Earliest, Latest, SomeLacks, AllLack, NoneLacks}
 use Rattle.waiting.specs.Working.{mustBit, mayBit}
 use Rattle.waiting.proofs.OrderLaws.{Under, rank-under, select-under, none-under}
@@ -46,21 +47,16 @@ under-mark s r t o long same u =
 pub record Stroke (a b : ℕ) : Type 0 where
   pub most : either a b ≤ 1
   pub range : onlyFirst a b ≤ either a b
-  pub unmarked : b ≡ 0 → (onlyFirst a b ≡ a) × (either a b ≡ a)
+  pub bare : b ≡ 0 → (onlyFirst a b ≡ a) × (either a b ≡ a)
   pub outcome : (c : ℕ) → c ≤ 1 → (b ≡ 0 → c ≡ a) → (onlyFirst a b ≤ c) × (c ≤ either a b)
 
 pub stroke : (a b : ℕ) → a ≤ 1 → b ≤ 1 → Stroke a b
-stroke zero zero la lb = record { most = omega arith; range = omega arith; unmarked = (λ e. (refl, refl)); outcome = (λ c l h. omega (arith, h refl)) }
-stroke (suc zero) zero la lb = record { most = omega arith; range = omega arith; unmarked = (λ e. (refl, refl)); outcome = (λ c l h. omega (arith, h refl)) }
-stroke zero (suc zero) la lb = record { most = omega arith; range = omega arith; unmarked = (λ e. absurd (omega arith)); outcome = (λ c l h. omega arith) }
-stroke (suc zero) (suc zero) la lb = record { most = omega arith; range = omega arith; unmarked = (λ e. absurd (omega arith)); outcome = (λ c l h. omega arith) }
-stroke (suc (suc a)) b la lb = absurd (omega arith)
-stroke zero (suc (suc b)) la lb = absurd (omega arith)
-stroke (suc zero) (suc (suc b)) la lb = absurd (omega arith)
-
--- one position is found
-pub same-place : (r : Option ℕ) (p q : ℕ) → r ≡ some p → r ≡ some q → p ≡ q
-same-place r p q e f = let h : _≡_ {A = Option ℕ} (some p) (some q) = sym e ∙ f in cc
+stroke =
+    of-bits Stroke
+    (record { most = omega arith; range = omega arith; bare = (λ e. (refl, refl)); outcome = (λ c l h. omega (arith, h refl)) })
+    (record { most = omega arith; range = omega arith; bare = (λ e. absurd (omega arith)); outcome = (λ c l h. omega arith) })
+    (record { most = omega arith; range = omega arith; bare = (λ e. (refl, refl)); outcome = (λ c l h. omega (arith, h refl)) })
+    (record { most = omega arith; range = omega arith; bare = (λ e. absurd (omega arith)); outcome = (λ c l h. omega arith) })
 
 -- ---- a strip s and its waiting strip t
 module _ (s t : List ℕ) (sBits : (p : ℕ) → cell s p ≤ 1) (tBits : (p : ℕ) → cell t p ≤ 1) where
@@ -87,7 +83,7 @@ module _ (s t : List ℕ) (sBits : (p : ℕ) → cell s p ≤ 1) (tBits : (p : �
       record {
         long = length-listOf f (length s);
         bits = (λ p l. omega (arith, getD-listOf f (length s) p l, h p .1, at p .most));
-        agrees = (λ p l e. let m = at p .unmarked e in getD-listOf f (length s) p l ∙ omega (arith, h p .0, h p .1, m .0, m .1));
+        agrees = (λ p l e. let m = at p .bare e in getD-listOf f (length s) p l ∙ omega (arith, h p .0, h p .1, m .0, m .1));
       }
 
   pub must-outcome : Outcome s t (joined onlyFirst s t)
@@ -159,8 +155,8 @@ module _ (s t : List ℕ) (sBits : (p : ℕ) → cell s p ≤ 1) (tBits : (p : �
         record {
           noFewer = (λ o u. omega (arith, least, counted o u, rank-under must (cell o) (length s) i (over-must o u) h));
           noMore = (λ o u. omega (arith, most, counted o u, rank-under (cell o) may (length s) i (under-may o u) h));
-          fewest = record { outcome = joined onlyFirst s t; is = must-outcome; has = refl };
-          highest = record { outcome = joined either s t; is = may-outcome; has = refl };
+          leastReached = record { outcome = joined onlyFirst s t; is = must-outcome; has = refl };
+          mostReached = record { outcome = joined either s t; is = may-outcome; has = refl };
           between = (λ n a b. between n i (le-refl i) (omega (arith, least, low)) (omega (arith, most, high)));
         }
 
@@ -177,7 +173,7 @@ module _ (s t : List ℕ) (sBits : (p : ℕ) → cell s p ≤ 1) (tBits : (p : �
           reached = record { outcome = joined either s t; is = may-outcome; has = h };
           noneBefore = (λ o p u x.
               let w = select-under (cell o) may (length s) k p (under-may o u) (sym (sought o u) ∙ x) in
-              let y : e ≡ w .0 = same-place (select (joined either s t) 1 k) e (w .0) h (listed-select may (length s) 1 k ∙ w .1) in
+              let y : e ≡ w .0 = same-some (select (joined either s t) 1 k) e (w .0) h (listed-select may (length s) 1 k ∙ w .1) in
               omega (arith, w .2));
         }
 
@@ -194,7 +190,7 @@ module _ (s t : List ℕ) (sBits : (p : ℕ) → cell s p ≤ 1) (tBits : (p : �
         reached = record { outcome = joined onlyFirst s t; is = must-outcome; has = h };
         noneAfter = (λ o p u x.
             let w = must-has l h o u in
-            let y : p ≡ w .0 = same-place (select o 1 k) p (w .0) x (w .1) in
+            let y : p ≡ w .0 = same-some (select o 1 k) p (w .0) x (w .1) in
             omega (arith, w .2));
       },
     )

@@ -2,11 +2,10 @@
 use Prim.Native.Nat.{ℕ}
 use mathlib.Core.Path.{_≡_}
 use mathlib.Core.List.{List}
-use mathlib.Core.Option.{some, none}
 use lib.ListN.{length}
 use Rattle.words.specs.declared.handle.Handle.{Handle}
 use Rattle.words.specs.Strip.{stripOf}
-use Rattle.words.specs.Refusals.{numberOf, Line, judge}
+use Rattle.words.specs.Refusals.{numberOf, Judged}
 use Rattle.pairs.specs.Calls.{pairLines, pairWithinTable}
 use Rattle.waiting.specs.declared.waiting.RankAnswer.{RankAnswer}
 use Rattle.waiting.specs.declared.waiting.RankAnswer.the-variants as rankAnswer
@@ -46,11 +45,6 @@ abbrev pub RightSelect : List ℕ → List ℕ → ℕ → SelectTold → Type 0
 RightSelect s t k (fromTo a b) = NoneLacks s t k × Earliest s t k a × Latest s t k b
 RightSelect s t k (fromOn a) = SomeLacks s t k × Earliest s t k a
 RightSelect s t k (unselected n) = AllLack s t k × (n ≡ 6)
-
--- x is the refusal that the table gives or, where it gives none, an answer that is right
-pub record Judged {A : Type 0} (table : List Line) (refuse : ℕ → A) (Right : A → Type 0) (x : A) : Type 0 where
-  pub early : (n : ℕ) → judge table ≡ some n → x ≡ refuse n
-  pub late : judge table ≡ none → Right x
 
 -- waiting count(i): 1, 2 of the strip; 1, 2 of the waiting strip; 16; 4 i above the length
 abbrev pub WaitingRank : Handle → List ℕ → Handle → List ℕ → ℕ → RankTold → Type 0

@@ -24,8 +24,8 @@ pub record Reached {A : Type 0} (s t : List ℕ) (f : List ℕ → A) (x : A) : 
 pub record RankRange (s t : List ℕ) (i least most : ℕ) : Type 0 where
   pub noFewer : (o : List ℕ) → Outcome s t o → least ≤ rank o 1 i
   pub noMore : (o : List ℕ) → Outcome s t o → rank o 1 i ≤ most
-  pub fewest : Reached s t (λ o. rank o 1 i) least
-  pub highest : Reached s t (λ o. rank o 1 i) most
+  pub leastReached : Reached s t (λ o. rank o 1 i) least
+  pub mostReached : Reached s t (λ o. rank o 1 i) most
   pub between : (n : ℕ) → least ≤ n → n ≤ most → Reached s t (λ o. rank o 1 i) n
 
 -- the earliest position that the k-th misfire can take: some outcome has it there, none has it before

@@ -1,11 +1,10 @@
--- `waiting::scan::waiting_places` meets its contract. The invariant: the words before j are passed, and of the k misfires before the one sought remain `early`
--- of those that may be and `late` of those that must be. Assumes nothing.
+-- `waiting::scan::waiting_places` meets its contract. The invariant: the words before j are passed, and of the k misfires before the one sought remain `may`
+-- of those that may be and `must` of those that must be. Assumes nothing.
 use mathlib.Core.Path.{_≡_, sym, ap, _∙_}
 use Prim.Native.Nat.{ℕ, _+_, _-_, _*_, _≤_, _<_}
 use native.Mathlib.Omega.{arith}
 use borrow.Author.Needs.{needs}
-use Rattle.words.specs.Strip.{holds, rankOf}
-use Rattle.words.proofs.Sums.{sum-zero}
+use Rattle.words.specs.Strip.{rankOf}
 use Rattle.words.proofs.SearchLaws.{placeIn-none}
 use Rattle.pairs.specs.Rules.{either, onlyFirst}
 use Rattle.pairs.proofs.JoinLaws.{joined-next, joined-word-select}
@@ -15,16 +14,17 @@ use Rattle.waiting.proofs.scan.waiting_places.Statement.{statement}
 use Rattle.waiting.proofs.scan.waiting_places.Tie as tie
 
 abbrev Inv-loop : tie.InvT-loop
-Inv-loop xs ys to k early₀ late₀ j₀ early late j =
-    (j ≤ to) × (rankOf (mayBit xs ys) 1 (64 * j) + early ≡ k) × (rankOf (mustBit xs ys) 1 (64 * j) + late ≡ k)
+Inv-loop xs ys to k may₀ must₀ j₀ may must j =
+    (j ≤ to) × (rankOf (mayBit xs ys) 1 (64 * j) + may ≡ k) × (rankOf (mustBit xs ys) 1 (64 * j) + must ≡ k)
 
 abbrev μ-loop : tie.MeasureT-loop
-μ-loop xs ys to k early₀ late₀ j₀ early late j = to - j
+μ-loop xs ys to k may₀ must₀ j₀ may must j = to - j
+
+waiting-passed-requires : tie.Need-waiting-passed-requires Inv-loop μ-loop
+waiting-passed-requires c κs = search needs
 
 loop-holds : tie.Need-loop-holds Inv-loop μ-loop
-loop-holds c =
-    let a = c .before .before .args in
-    omega (arith, sum-zero (holds (mustBit (a .xs .now) (a .ys .now)) 1), sum-zero (holds (mayBit (a .xs .now) (a .ys .now)) 1))
+loop-holds c = c .waiting-passed .ensures
 
 mul-x : tie.Need-mul-x Inv-loop μ-loop
 mul-x c = omega arith
@@ -52,7 +52,7 @@ ones-of-requires-2 c κs = search needs
 
 -- the misfires of word j with those before it: those before the next word, of which no more must be than may be
 next : (c : tie.After-ones-of2 Inv-loop μ-loop)
-    → let a = c .before .before .before .before .before .before .before .before .before .before .args in
+    → let a = c .before .before .before .before .before .before .before .before .before .before .before .args in
     let j = c .before .before .before .before .before .before .before .loop .j in
     let f : ℕ → ℕ = mayBit (a .xs .now) (a .ys .now) in
     let g : ℕ → ℕ = mustBit (a .xs .now) (a .ys .now) in
@@ -60,7 +60,7 @@ next : (c : tie.After-ones-of2 Inv-loop μ-loop)
     × (rankOf g 1 (64 * j) + c .ones-of2 .result ≡ rankOf g 1 (64 * (j + 1)))
     × (rankOf g 1 (64 * (j + 1)) ≤ rankOf f 1 (64 * (j + 1)))
 next c =
-    let a = c .before .before .before .before .before .before .before .before .before .before .args in
+    let a = c .before .before .before .before .before .before .before .before .before .before .before .args in
     let j = c .before .before .before .before .before .before .before .loop .j in
     let f = joined-next either (a .xs .now) (a .ys .now) j (c .before .before .before .join .result) (c .before .before .before .join .ensures) in
     let g = joined-next onlyFirst (a .xs .now) (a .ys .now) j (c .before .before .join2 .result) (c .before .before .join2 .ensures) in
@@ -74,14 +74,14 @@ select-in-word-requires c κs = search needs
 
 -- the earliest in word j
 earliest : (c : tie.After-select-in-word Inv-loop μ-loop)
-    → let a = c .before .before .before .before .before .before .before .before .before .before .before .before .args in
+    → let a = c .before .before .before .before .before .before .before .before .before .before .before .before .before .args in
     let e = c .select-in-word .result in
     (e < 64) × (64 * c .before .before .before .before .before .before .before .before .before .loop .j + e ≡ placeOf (mayBit (a .xs .now) (a .ys .now)) (a .to) (a .k))
 earliest c =
-    let a = c .before .before .before .before .before .before .before .before .before .before .before .before .args in
+    let a = c .before .before .before .before .before .before .before .before .before .before .before .before .before .args in
     let l = c .before .before .before .before .before .before .before .before .before .loop in
     let z = c .before .before .before .before .before .join in
-    joined-word-select either (a .xs .now) (a .ys .now) (l .j) (z .result) (z .ensures) (a .to) (a .k) (l .early) (c .select-in-word .result)
+    joined-word-select either (a .xs .now) (a .ys .now) (l .j) (z .result) (z .ensures) (a .to) (a .k) (l .may) (c .select-in-word .result)
     (c .before .before .before .before .before .before .before .before .loop-test .taken) (l .inv .1) (omega (arith, c .before .if1 .taken, c .before .before .before .ones-of .ensures)) (c .select-in-word .ensures)
 
 add-earliest : tie.Need-add-earliest Inv-loop μ-loop
@@ -95,14 +95,14 @@ select-in-word-requires-2 c κs = search needs
 
 -- the latest in it too
 latest : (c : tie.After-select-in-word2 Inv-loop μ-loop)
-    → let a = c .before .before .before .before .before .before .before .before .before .before .before .before .before .before .args in
+    → let a = c .before .before .before .before .before .before .before .before .before .before .before .before .before .before .before .args in
     let e = c .select-in-word2 .result in
     (e < 64) × (64 * c .before .before .before .before .before .before .before .before .before .before .before .loop .j + e ≡ placeOf (mustBit (a .xs .now) (a .ys .now)) (a .to) (a .k))
 latest c =
-    let a = c .before .before .before .before .before .before .before .before .before .before .before .before .before .before .args in
+    let a = c .before .before .before .before .before .before .before .before .before .before .before .before .before .before .before .args in
     let l = c .before .before .before .before .before .before .before .before .before .before .before .loop in
     let z = c .before .before .before .before .before .before .join2 in
-    joined-word-select onlyFirst (a .xs .now) (a .ys .now) (l .j) (z .result) (z .ensures) (a .to) (a .k) (l .late) (c .select-in-word2 .result)
+    joined-word-select onlyFirst (a .xs .now) (a .ys .now) (l .j) (z .result) (z .ensures) (a .to) (a .k) (l .must) (c .select-in-word2 .result)
     (c .before .before .before .before .before .before .before .before .before .before .loop-test .taken) (l .inv .2) (omega (arith, c .before .if2 .taken, c .before .before .before .before .ones-of2 .ensures)) (c .select-in-word2 .ensures)
 
 add-latest : tie.Need-add-latest Inv-loop μ-loop
@@ -117,17 +117,17 @@ add-joined-place c = omega arith
 joined-place-requires : tie.Need-joined-place-requires Inv-loop μ-loop
 joined-place-requires c κs = omega arith
 
--- the latest past it: the k-th one is the one that has `late`, less the ones of word j, before it from the next word on
+-- the latest past it: the k-th one is the one that has `must`, less the ones of word j, before it from the next word on
 returns-2 : tie.Need-returns-2 Inv-loop μ-loop
 returns-2 c =
-    let a = c .before .before .before .before .before .before .before .before .before .before .before .before .before .before .args in
+    let a = c .before .before .before .before .before .before .before .before .before .before .before .before .before .before .before .args in
     let l = c .before .before .before .before .before .before .before .before .before .before .before .loop in
     let g : ℕ → ℕ = mustBit (a .xs .now) (a .ys .now) in
-    let e : rankOf g 1 (64 * (l .j + 1)) + (l .late - c .before .before .before .before .ones-of2 .result) ≡ a .k = omega (arith, next (c .before .before .before .before) .1, l .inv .2, c .before .if2 .left) in
+    let e : rankOf g 1 (64 * (l .j + 1)) + (l .must - c .before .before .before .before .ones-of2 .result) ≡ a .k = omega (arith, next (c .before .before .before .before) .1, l .inv .2, c .before .if2 .left) in
     (earliest (c .before .before) .1, c .joined-place .ensures ∙ ap (placeOf g (a .to)) e)
 
-sub-late : tie.Need-sub-late Inv-loop μ-loop
-sub-late c = let w = next (c .before) in omega (arith, w .0, w .1, w .2, c .before .before .before .before .before .before .before .before .loop .inv .1, c .before .before .before .before .before .before .before .before .loop .inv .2, c .if1 .left)
+sub-must : tie.Need-sub-must Inv-loop μ-loop
+sub-must c = let w = next (c .before) in omega (arith, w .0, w .1, w .2, c .before .before .before .before .before .before .before .before .loop .inv .1, c .before .before .before .before .before .before .before .before .loop .inv .2, c .if1 .left)
 
 add-j : tie.Need-add-j Inv-loop μ-loop
 add-j c = omega arith
@@ -139,17 +139,14 @@ loop-again : tie.Need-loop-again Inv-loop μ-loop
 loop-again c =
     let w = next (c .before) in
     let l = c .before .before .before .before .before .before .before .before .loop in
-    (omega arith, omega (arith, w .0, l .inv .1, c .if1 .left), omega (arith, w .1, l .inv .2, sub-late c))
+    (omega arith, omega (arith, w .0, l .inv .1, c .if1 .left), omega (arith, w .1, l .inv .2, sub-must c))
 
-mul-t29 : tie.Need-mul-t29 Inv-loop μ-loop
-mul-t29 c = omega arith
-
-mul-t30 : tie.Need-mul-t30 Inv-loop μ-loop
-mul-t30 c = omega arith
+mul-end : tie.Need-mul-end Inv-loop μ-loop
+mul-end c = omega arith
 
 returns-3 : tie.Need-returns-3 Inv-loop μ-loop
 returns-3 c =
-    let a = c .before .before .before .before .args in
+    let a = c .before .before .before .before .before .args in
     let l = c .before .loop in
     let f : ℕ → ℕ = mayBit (a .xs .now) (a .ys .now) in
     let g : ℕ → ℕ = mustBit (a .xs .now) (a .ys .now) in
@@ -164,6 +161,7 @@ waiting-places-spec =
     (tie.spec
     Inv-loop
     μ-loop
+    waiting-passed-requires
     loop-holds
     mul-x
     shared-slice-read-x
@@ -183,10 +181,9 @@ waiting-places-spec =
     add-joined-place
     joined-place-requires
     returns-2
-    sub-late
+    sub-must
     add-j
     loop-less
     loop-again
-    mul-t29
-    mul-t30
+    mul-end
     returns-3)

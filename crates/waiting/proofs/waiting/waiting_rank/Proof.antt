@@ -4,11 +4,11 @@ use native.Mathlib.Omega.{arith}
 use borrow.Author.Needs.{needs}
 use lib.ListN.{length}
 use Rattle.words.specs.Strip.{stripOf}
-use Rattle.words.proofs.CheckLaws.{judged-pass}
+use Rattle.words.proofs.CheckLaws.{judged-pass, right-refused, right-passed}
 use Rattle.pairs.specs.Calls.{pairWithinTable}
 use Rattle.pairs.proofs.CheckLaws.{CheckedPair, checked-within}
 use Rattle.waiting.specs.Calls.{leastMost, unranked, RightRank}
-use Rattle.waiting.proofs.CallLaws.{judged-refused, judged-passed, rank-right}
+use Rattle.waiting.proofs.CallLaws.{rank-right}
 use Rattle.waiting.proofs.waiting.waiting_rank.Statement.{statement}
 use Rattle.waiting.proofs.waiting.waiting_rank.Tie as tie
 
@@ -36,7 +36,7 @@ returns : tie.Need-returns
 returns c =
     let a = c .before .before .before .before .before .before .args in
     let v = c .before .before .before .check-pair-within in
-    judged-refused (pairWithinTable (a .strip) (length (a .xs .now)) (a .waiting) (length (a .ys .now)) (a .i)) (v .result) unranked
+    right-refused (pairWithinTable (a .strip) (length (a .xs .now)) (a .waiting) (length (a .ys .now)) (a .i)) (v .result) unranked
     (RightRank (stripOf (a .xs .now) (a .strip .length)) (stripOf (a .ys .now) (a .waiting .length)) (a .i)) (v .ensures) (c .before .r .given .0 .0) (c .before .r .given .1)
 
 returns-2 : tie.Need-returns-2
@@ -45,7 +45,7 @@ returns-2 c =
     let v = c .before .before .before .check-pair-within in
     let n = c .waiting-ones in
     let k = known (c .before) in
-    judged-passed (pairWithinTable (a .strip) (length (a .xs .now)) (a .waiting) (length (a .ys .now)) (a .i)) (v .result) unranked
+    right-passed (pairWithinTable (a .strip) (length (a .xs .now)) (a .waiting) (length (a .ys .now)) (a .i)) (v .result) unranked
     (RightRank (stripOf (a .xs .now) (a .strip .length)) (stripOf (a .ys .now) (a .waiting .length)) (a .i)) (v .ensures) (leastMost (n .result .least) (n .result .most))
     (c .before .enum-told .given .1)
     (rank-right (a .xs .now) (a .ys .now) (a .strip .length) (a .waiting .length) (k .0 .equal) (a .i) (n .result .least) (n .result .most) (k .1) (n .ensures .0) (n .ensures .1))

@@ -4,11 +4,11 @@ use native.Mathlib.Omega.{arith}
 use borrow.Author.Needs.{needs}
 use lib.ListN.{length}
 use Rattle.words.specs.Strip.{stripOf}
-use Rattle.words.proofs.CheckLaws.{judged-pass}
+use Rattle.words.proofs.CheckLaws.{judged-pass, right-refused, right-passed}
 use Rattle.pairs.specs.Calls.{pairLines}
 use Rattle.pairs.proofs.CheckLaws.{CheckedPair, checked-pair}
 use Rattle.waiting.specs.Calls.{SelectTold, fromTo, fromOn, unselected, RightSelect, WaitingSelect}
-use Rattle.waiting.proofs.CallLaws.{judged-refused, judged-passed, right-beyond, right-none, right-to, right-on}
+use Rattle.waiting.proofs.CallLaws.{right-beyond, right-none, right-to, right-on}
 use Rattle.waiting.proofs.waiting.waiting_select.Statement.{statement}
 use Rattle.waiting.proofs.waiting.waiting_select.Tie as tie
 
@@ -35,7 +35,7 @@ passed : (c : tie.After-enum-told) (x : SelectTold)
     → WaitingSelect (a .strip) (a .xs .now) (a .waiting) (a .ys .now) (a .k) x
 passed c x h =
     let a = c .before .before .before .before .before .args in
-    judged-passed (pairLines (a .strip) (length (a .xs .now)) (a .waiting) (length (a .ys .now))) (c .before .before .check-pair .result) unselected
+    right-passed (pairLines (a .strip) (length (a .xs .now)) (a .waiting) (length (a .ys .now))) (c .before .before .check-pair .result) unselected
     (RightSelect (stripOf (a .xs .now) (a .strip .length)) (stripOf (a .ys .now) (a .waiting .length)) (a .k)) (c .before .before .check-pair .ensures) x (c .enum-told .given .1) h
 
 returns : tie.Need-returns
@@ -61,7 +61,7 @@ returns-3 : tie.Need-returns-3
 returns-3 c =
     let a = c .before .before .before .before .before .before .args in
     let v = c .before .before .before .check-pair in
-    judged-refused (pairLines (a .strip) (length (a .xs .now)) (a .waiting) (length (a .ys .now))) (v .result) unselected
+    right-refused (pairLines (a .strip) (length (a .xs .now)) (a .waiting) (length (a .ys .now))) (v .result) unselected
     (RightSelect (stripOf (a .xs .now) (a .strip .length)) (stripOf (a .ys .now) (a .waiting .length)) (a .k)) (v .ensures) (c .before .r .given .0 .0) (c .before .r .given .1)
 
 returns-4 : tie.Need-returns-4
