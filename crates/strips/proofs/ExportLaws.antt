@@ -2,14 +2,18 @@
 use mathlib.Core.Path.{_≡_, refl, sym, ap, _∙_, subst}
 use mathlib.Core.Bool.{Bool, cond}
 use mathlib.Core.List.{List}
+use mathlib.Core.Logic.{_⊎_, inl, inr}
 use Prim.Native.Nat.{ℕ, _≤_, _<_}
 use native.Mathlib.Omega.{arith}
 use lib.ListN.{length}
 use borrow.Author.Tests.{lt-ltb, le-ltb}
 use Rattle.words.specs.declared.handle.Handle.{Handle}
 use Rattle.words.specs.Refusals.{Told, coded, CodedAs}
+use Rattle.words.proofs.Sums.{lt-or}
 use Rattle.counters.specs.Promises.{ChangedTold, Outcome, outcome}
-use Rattle.strips.specs.Exports.{changedFive, fiveOver, numbersOver, lent, lentAfter, reported, Reported, Written}
+use Rattle.waiting.specs.Calls.{WaitingRank, WaitingSelect}
+use Rattle.waiting.proofs.CallLaws.{waiting-rank-unique, waiting-select-unique}
+use Rattle.strips.specs.Exports.{changedFive, fiveOver, numbersOver, rankNumbers, selectNumbers, lent, lentAfter, reported, Reported, Written}
 
 -- a reading, under the handle made of the two numbers
 pub coded-as : (P : Handle → Told → Type 0) (g h : Handle) (t : Told) (r : ℕ) → g ≡ h → P g t → r ≡ coded t → CodedAs (P h) r
@@ -52,3 +56,26 @@ written-ran n numbers P g h k m os es t e f le p w =
       idle = (λ l. absurd (omega arith));
       ran = (λ l. record { told = t; holds = subst (λ (x : Handle). P h x t) f (subst (λ (x : Handle). P x k t) e p); same = w });
     }
+
+-- where P holds of at most one thing told, what is written is fixed
+pub written-unique : {A : Type 0} (n : ℕ) (numbers : A → List ℕ) (P : A → Type 0) (os es fs : List ℕ) → ((x y : A) → P x → P y → x ≡ y)
+    → Written n numbers P os es → Written n numbers P os fs → es ≡ fs
+written-unique {A} n numbers P os es fs one a b = go (lt-or (length os) n)
+  where
+    go : (length os < n) ⊎ (n ≤ length os) → es ≡ fs
+    go (inl l) = a .idle l ∙ sym (b .idle l)
+    go (inr l) =
+        let x = a .ran l in
+        let y = b .ran l in
+        x .same ∙ ap (λ (t : A). numbersOver n (numbers t) os) (one (x .told) (y .told) (x .holds) (y .holds)) ∙ sym (y .same)
+
+-- so of the waiting calls
+pub waiting-count-unique : (strip waiting : Handle) (ws vs os es fs : List ℕ) (i : ℕ) → Written 3 rankNumbers (WaitingRank strip ws waiting vs i) os es
+    → Written 3 rankNumbers (WaitingRank strip ws waiting vs i) os fs → es ≡ fs
+waiting-count-unique strip waiting ws vs os es fs i =
+    written-unique 3 rankNumbers (WaitingRank strip ws waiting vs i) os es fs (waiting-rank-unique strip waiting ws vs i)
+
+pub waiting-find-unique : (strip waiting : Handle) (ws vs os es fs : List ℕ) (k : ℕ) → Written 4 selectNumbers (WaitingSelect strip ws waiting vs k) os es
+    → Written 4 selectNumbers (WaitingSelect strip ws waiting vs k) os fs → es ≡ fs
+waiting-find-unique strip waiting ws vs os es fs k =
+    written-unique 4 selectNumbers (WaitingSelect strip ws waiting vs k) os es fs (waiting-select-unique strip waiting ws vs k)

@@ -27,7 +27,7 @@ createdFive (uncreated n) = five n 0 0 (handle 0 0)
 abbrev pub numbersOver : ℕ → List ℕ → List ℕ → List ℕ
 numbersOver n xs out = xs ++ drop n out
 
--- five numbers
+-- the same of five
 abbrev pub fiveOver : List ℕ → List ℕ → List ℕ
 fiveOver = numbersOver 5
 
@@ -67,7 +67,7 @@ abbrev pub rankNumbers : RankTold → List ℕ
 rankNumbers (leastMost a b) = 0 ∷ a ∷ b ∷ []
 rankNumbers (unranked n) = n ∷ 0 ∷ 0 ∷ []
 
--- the four of a waiting find: refusal or 0, the earliest, 1 where every outcome has such a stroke or else 0, the latest or 0
+-- the four of a waiting find: refusal or 0, the earliest, 1 where every outcome of the strip and its waiting strip has such a stroke or else 0, the latest or 0
 abbrev pub selectNumbers : SelectTold → List ℕ
 selectNumbers (fromTo a b) = 0 ∷ a ∷ 1 ∷ b ∷ []
 selectNumbers (fromOn a) = 0 ∷ a ∷ 0 ∷ 0 ∷ []

@@ -1,5 +1,5 @@
 // The waiting calls: the strip's capacity, length and words, then the waiting strip's. They write to the front of `out`: refusal or 0, then the values, 0 where
-// refused. With a shorter `out` nothing runs.
+// refused. With an `out` shorter than these numbers, three of a count and four of a find, nothing runs.
 ghost use mathlib.Core.Path.{_≡_};
 ghost use mathlib.Core.List.{[], _∷_};
 ghost use Prim.Native.Nat.{_≤_};

@@ -8,7 +8,7 @@ use lib.ListN.{length}
 use Rattle.words.specs.declared.handle.Handle.{Handle}
 use Rattle.words.specs.Strip.{stripOf, rankOf, selectOf, rank, select}
 use Rattle.words.specs.Refusals.{Line, judge, Judged}
-use Rattle.words.proofs.CheckLaws.{not-both, judged-unique, Numbered, judged-number}
+use Rattle.words.proofs.CheckLaws.{not-both, judged-unique, right-number}
 use Rattle.words.proofs.SearchLaws.{select-beyond, placeIn-below, placeIn-past}
 use Rattle.words.proofs.StripLaws.{strip-length, strip-le}
 use Rattle.pairs.specs.Rules.{either, onlyFirst, joined}
@@ -79,6 +79,17 @@ waiting-select-unique strip waiting ws vs k x y =
     let s = stripOf ws (strip .length) in
     let t = stripOf vs (waiting .length) in
     judged-unique (pairLines strip (length ws) waiting (length vs)) unselected (RightSelect s t k) x y (select-unique s t k)
+
+-- a refusal's number is not 0, which stands for none
+pub rank-number : (strip waiting : Handle) (ws vs : List ℕ) (i n : ℕ) → WaitingRank strip ws waiting vs i (unranked n) → 1 ≤ n
+rank-number strip waiting ws vs i n =
+    right-number (pairWithinTable strip (length ws) waiting (length vs) i) unranked (RightRank (stripOf ws (strip .length)) (stripOf vs (waiting .length)) i) n
+    (omega arith) (λ m k e. cc) (λ r. absurd r)
+
+pub select-number : (strip waiting : Handle) (ws vs : List ℕ) (k n : ℕ) → WaitingSelect strip ws waiting vs k (unselected n) → 1 ≤ n
+select-number strip waiting ws vs k n =
+    right-number (pairLines strip (length ws) waiting (length vs)) unselected (RightSelect (stripOf ws (strip .length)) (stripOf vs (waiting .length)) k) n
+    (omega arith) (λ m k e. cc) (λ r. omega (arith, r .1))
 
 -- ---- what is right of strips of one length in words
 module _ (ws vs : List ℕ) (n m : ℕ) (e : n ≡ m) where

@@ -1,3 +1,4 @@
 pub mod OrderLaws
 pub mod OutcomeLaws
 pub mod CallLaws
+pub mod ReaderLaws

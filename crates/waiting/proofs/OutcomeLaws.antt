@@ -34,29 +34,21 @@ itself s t bits = record { long = refl; bits = (λ p l. bits p); agrees = (λ p 
 pub unmarked : (s t o : List ℕ) → ((p : ℕ) → p < length s → cell t p ≡ 0) → Outcome s t o → o ≡ s
 unmarked s t o bare u = ext-getD 0 o s (u .long) (λ p l. let q : p < length s = rw (u .long) at l in u .agrees p q (bare p q))
 
--- the bit under a mark does not matter
-pub under-mark : (s r t o : List ℕ) → length s ≡ length r → ((p : ℕ) → p < length s → cell t p ≡ 0 → cell s p ≡ cell r p) → Outcome s t o → Outcome r t o
-under-mark s r t o long same u =
-    record {
-      long = u .long ∙ long;
-      bits = (λ p l. u .bits p (omega arith));
-      agrees = (λ p l e. let q : p < length s = omega arith in u .agrees p q e ∙ same p q e);
-    }
-
 -- ---- one stroke: its bit a, its mark b
 pub record Stroke (a b : ℕ) : Type 0 where
   pub most : either a b ≤ 1
   pub range : onlyFirst a b ≤ either a b
   pub bare : b ≡ 0 → (onlyFirst a b ≡ a) × (either a b ≡ a)
   pub outcome : (c : ℕ) → c ≤ 1 → (b ≡ 0 → c ≡ a) → (onlyFirst a b ≤ c) × (c ≤ either a b)
+  pub mark : either a b ≡ onlyFirst a b + b
 
 pub stroke : (a b : ℕ) → a ≤ 1 → b ≤ 1 → Stroke a b
 stroke =
     of-bits Stroke
-    (record { most = omega arith; range = omega arith; bare = (λ e. (refl, refl)); outcome = (λ c l h. omega (arith, h refl)) })
-    (record { most = omega arith; range = omega arith; bare = (λ e. absurd (omega arith)); outcome = (λ c l h. omega arith) })
-    (record { most = omega arith; range = omega arith; bare = (λ e. (refl, refl)); outcome = (λ c l h. omega (arith, h refl)) })
-    (record { most = omega arith; range = omega arith; bare = (λ e. absurd (omega arith)); outcome = (λ c l h. omega arith) })
+    (record { most = omega arith; range = omega arith; bare = (λ e. (refl, refl)); outcome = (λ c l h. omega (arith, h refl)); mark = refl })
+    (record { most = omega arith; range = omega arith; bare = (λ e. absurd (omega arith)); outcome = (λ c l h. omega arith); mark = refl })
+    (record { most = omega arith; range = omega arith; bare = (λ e. (refl, refl)); outcome = (λ c l h. omega (arith, h refl)); mark = refl })
+    (record { most = omega arith; range = omega arith; bare = (λ e. absurd (omega arith)); outcome = (λ c l h. omega arith); mark = refl })
 
 -- ---- a strip s and its waiting strip t
 module _ (s t : List ℕ) (sBits : (p : ℕ) → cell s p ≤ 1) (tBits : (p : ℕ) → cell t p ≤ 1) where
@@ -144,6 +136,17 @@ module _ (s t : List ℕ) (sBits : (p : ℕ) → cell s p ≤ 1) (tBits : (p : �
               has = omega (arith, mixed-rank (suc m) l, sum-suc must m, sum-suc may m, at m .range, at m .most);
             }
         go (inr q) ih = ih q
+
+    -- the most is the least and the number of marks before i
+    sum-marks : (n : ℕ) → ones may n ≡ ones must n + ones (cell t) n
+    sum-marks zero = omega (arith, sum-zero may, sum-zero must, sum-zero (cell t))
+    sum-marks (suc n) = omega (arith, sum-suc may n, sum-suc must n, sum-suc (cell t) n, sum-marks n, at n .mark)
+
+    pub most-marks : rank (joined either s t) 1 i ≡ rank (joined onlyFirst s t) 1 i + rankOf (cell t) 1 i
+    most-marks =
+        let low : rankOf must 1 i ≡ ones must i = rank-ones must i (λ p. omega (arith, at p .range, at p .most)) in
+        let high : rankOf may 1 i ≡ ones may i = rank-ones may i (λ p. at p .most) in
+        omega (arith, listed-rank must (length s) 1 i h, listed-rank may (length s) 1 i h, low, high, rank-ones (cell t) i tBits, sum-marks i)
 
     -- the least and the most
     pub rank-range : RankRange s t i (rank (joined onlyFirst s t) 1 i) (rank (joined either s t) 1 i)

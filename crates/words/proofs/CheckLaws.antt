@@ -94,6 +94,15 @@ judged-number (l ∷ ls) n h e = go (l .applies) e (judged-number ls n (h .1))
     go true f ih = let z : l .number ≡ n = cc in omega (arith, h .0)
     go false f ih = ih f
 
+-- so a refusal that is right is not of number 0
+pub right-number : {A : Type 0} (t : List Line) (refuse : ℕ → A) (Right : A → Type 0) (n : ℕ) → Numbered t → ((m k : ℕ) → refuse m ≡ refuse k → m ≡ k)
+    → (Right (refuse n) → 1 ≤ n) → Judged t refuse Right (refuse n) → 1 ≤ n
+right-number t refuse Right n h one late j = go (judge t) refl
+  where
+    go : (o : Option ℕ) → judge t ≡ o → 1 ≤ n
+    go none e = late (j .late e)
+    go (some m) e = omega (arith, one n m (j .early m e), judged-number t m h e)
+
 -- the line of a k not below the length refuses what the search does not find: a find whose table ends with it answers for every k as one without
 pub absent-found : (t : List Line) (s : List ℕ) (v k : ℕ)
     → unless (judge (t ++ (absentLine (length s) k ∷ []))) refused (found (select s v k)) ≡ unless (judge t) refused (found (select s v k))
