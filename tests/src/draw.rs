@@ -1,4 +1,4 @@
-//! Calls, queries and comparisons drawn at random, their arguments around what they meet.
+//! Calls, queries, comparisons and calls on waiting strokes drawn at random, their arguments around what they meet.
 use crate::borders::{BAD_CAPACITIES, BAD_VALUES, FAR, LARGEST, UNITS, WIDE};
 use crate::call::{Call, Opcode, CALLS};
 use crate::model::number_of;
@@ -6,6 +6,7 @@ use crate::pair::Comparison;
 use crate::paper::Frozen;
 use crate::query::Query;
 use crate::random::Random;
+use crate::waiting::Waiting;
 
 /// What a call meets: the handle's capacity, the strip, and the rows.
 pub struct Scene<'a> {
@@ -186,6 +187,19 @@ pub fn comparison(random: &mut Random, kind: Comparison, capacity: u64, strips: 
         Comparison::Span(..) => {
             let (a, b) = span(random, &Scene { capacity, strip: strips.0, rows: &[] });
             Comparison::Span(a, b)
+        }
+    }
+}
+
+/// A call of the same kind, of a drawn argument, on the bits of a strip and its waiting strip of one length under a capacity:
+/// k around the ones that every outcome has, or that some outcome has.
+pub fn waiting(random: &mut Random, kind: Waiting, capacity: u64, strips: (&[bool], &[bool])) -> Waiting {
+    match kind {
+        Waiting::Count(_) => Waiting::Count(position(random, capacity, strips.0.len() as u64)),
+        Waiting::Find(_) => {
+            let under = random.below(2) == 0;
+            let ones: Vec<bool> = strips.0.iter().zip(strips.1).map(|(x, y)| if *y { under } else { *x }).collect();
+            Waiting::Find(index(random, &ones, 1))
         }
     }
 }

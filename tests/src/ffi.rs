@@ -164,6 +164,32 @@ extern "C" {
         a: u64,
         b: u64,
     ) -> i64;
+    pub fn strip_waiting_count(
+        capacity: u64,
+        length: u64,
+        words: *const u64,
+        words_len: usize,
+        waiting_capacity: u64,
+        waiting_length: u64,
+        waiting: *const u64,
+        waiting_len: usize,
+        i: u64,
+        out: *mut u64,
+        out_len: usize,
+    );
+    pub fn strip_waiting_find(
+        capacity: u64,
+        length: u64,
+        words: *const u64,
+        words_len: usize,
+        waiting_capacity: u64,
+        waiting_length: u64,
+        waiting: *const u64,
+        waiting_len: usize,
+        k: u64,
+        out: *mut u64,
+        out_len: usize,
+    );
     pub fn image_record_size(length: u64) -> u64;
     pub fn image_clear(image: *mut u8, image_len: usize) -> u64;
     pub fn image_freeze(

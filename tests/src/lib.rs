@@ -1,6 +1,7 @@
 //! The proved calls, to be compared with a plain model of them. The calls: those on words here, those on two strips' words in
-//! `pair`, those on a record in `record`, those on an image in `image`, the queries in `query`, and scripts of calls in
-//! `script`. The model: strips and rows in `model`, the image's bytes in `layout`, the paper machine in `paper`.
+//! `pair`, those on a strip and its waiting strip in `waiting`, those on a record in `record`, those on an image in `image`,
+//! the queries in `query`, and scripts of calls in `script`. The model: strips and rows in `model`, the image's bytes in
+//! `layout`, the paper machine in `paper`.
 pub mod borders;
 pub mod call;
 pub mod cases;
@@ -18,7 +19,9 @@ pub mod random;
 pub mod record;
 pub mod refusal;
 pub mod script;
+pub mod strip;
 pub mod tally;
+pub mod waiting;
 
 use ffi::{strip_get, strip_predecessor, strip_select_in_word, strip_successor};
 use refusal::{answer, Answer};

@@ -1,10 +1,11 @@
-//! The calls on a strip, on two strips and on a row, by the documents' definitions: a strip is a list of bits, every search is
-//! a loop over positions, and every counter is summed anew from the children that it gives. Refusals are judged in the order
-//! of the lines.
+//! The calls on a strip, on two strips, on a strip with strokes still waiting and on a row, by the documents' definitions: a
+//! strip is a list of bits, every search is a loop over positions, and every counter is summed anew from the children that it
+//! gives. Refusals are judged in the order of the lines.
 use crate::borders::LARGEST;
 use crate::call::{Call, Opcode};
-use crate::refusal::{Answer, Refusal, Signed, Values};
+use crate::refusal::{Answer, Bounded, Bounds, Refusal, Signed, Values};
 use crate::Handle;
+use std::collections::BTreeSet;
 use std::ops::Range;
 use Refusal::*;
 
@@ -178,6 +179,77 @@ pub fn span_difference(first: &[bool], second: &[bool], a: u64, b: u64) -> Signe
     Position.when(b > length(first))?;
     let ones = |bits: &[bool]| number_of(&bits[a as usize..b as usize], true) as i64;
     Ok(ones(first) - ones(second))
+}
+
+// ---- a strip and its waiting strip, each a list of bits, of one length
+
+/// Every outcome: the strips of the same length that agree with the strip wherever there is no mark.
+pub fn outcomes(strip: &[bool], waiting: &[bool]) -> Vec<Vec<bool>> {
+    let mut list = vec![strip.to_vec()];
+    for p in (0..strip.len()).filter(|p| waiting[*p]) {
+        let with = |outcome: &Vec<bool>, v: bool| [&outcome[..p], &[v], &outcome[p + 1..]].concat();
+        list = list.iter().flat_map(|outcome| [with(outcome, false), with(outcome, true)]).collect();
+    }
+    list
+}
+
+/// Waiting count by all outcomes: 4; the least and the most of count(1, i). Asserts that each number between is reached.
+pub fn count_of_outcomes(outcomes: &[Vec<bool>], i: u64) -> Bounded {
+    let counts: BTreeSet<u64> = outcomes.iter().map(|outcome| rank(outcome, 1, i)).collect::<Result<_, _>>()?;
+    let (least, most) = (counts.first().unwrap(), counts.last().unwrap());
+    assert!(
+        counts.iter().copied().eq(*least..=*most),
+        "of the counts from {least} to {most} only {counts:?} are reached"
+    );
+    Ok(Bounds { low: *least, high: Some(*most) })
+}
+
+/// Waiting find by all outcomes: 6 where none has a k-th one; the earliest and, where each has one, the latest of find(1, k).
+pub fn find_of_outcomes(outcomes: &[Vec<bool>], k: u64) -> Bounded {
+    let places: Vec<Answer> = outcomes.iter().map(|outcome| select(outcome, 1, k)).collect();
+    let found: BTreeSet<u64> = places.iter().flatten().copied().collect();
+    let earliest = *found.first().ok_or(NotFound)?;
+    let latest = if places.iter().all(Answer::is_ok) { found.last().copied() } else { None };
+    Ok(Bounds { low: earliest, high: latest })
+}
+
+/// A stroke as a cell: its bit, or 2 where it waits, whatever the bit beneath the mark.
+fn cells<'a>(strip: &'a [bool], waiting: &'a [bool]) -> impl Iterator<Item = u8> + 'a {
+    strip.iter().zip(waiting).map(|(bit, mark)| if *mark { 2 } else { u8::from(*bit) })
+}
+
+/// How many misfires there are at least and at most once a cell is passed.
+fn pass((least, most): (u64, u64), cell: u8) -> (u64, u64) {
+    match cell {
+        0 => (least, most),
+        1 => (least + 1, most + 1),
+        _ => (least, most + 1),
+    }
+}
+
+/// Waiting count by a walk over the cells: 4.
+pub fn waiting_count(strip: &[bool], waiting: &[bool], i: u64) -> Bounded {
+    Position.when(i > length(strip))?;
+    let (least, most) = cells(strip, waiting).take(i as usize).fold((0, 0), pass);
+    Ok(Bounds { low: least, high: Some(most) })
+}
+
+/// Waiting find by a walk over the cells: 6. A cell can be the k-th misfire where it can be 1 and k misfires can be before it,
+/// so none can once there are more than k at least.
+pub fn waiting_find(strip: &[bool], waiting: &[bool], k: u64) -> Bounded {
+    let (mut earliest, mut latest) = (None, None);
+    let (mut least, mut most) = (0, 0);
+    for (p, cell) in (0..).zip(cells(strip, waiting)) {
+        if cell != 0 && (least..=most).contains(&k) {
+            earliest = earliest.or(Some(p));
+            latest = Some(p);
+        }
+        (least, most) = pass((least, most), cell);
+        if least > k {
+            break;
+        }
+    }
+    Ok(Bounds { low: earliest.ok_or(NotFound)?, high: latest.filter(|_| least > k) })
 }
 
 // ---- the counters

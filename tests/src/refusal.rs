@@ -64,6 +64,17 @@ pub type Answer = Result<u64, Refusal>;
 /// The answer of a call that tells one value, which may be negative.
 pub type Signed = Result<i64, Refusal>;
 
+/// What holds over all outcomes of a strip with strokes still waiting: the least and the most, or the earliest and the latest.
+/// There is no latest where some outcome has none.
+#[derive(Clone, Copy, Debug, PartialEq, Eq)]
+pub struct Bounds {
+    pub low: u64,
+    pub high: Option<u64>,
+}
+
+/// The answer of a call that tells bounds.
+pub type Bounded = Result<Bounds, Refusal>;
+
 /// The answer of any call: two values, 0 where there is none.
 pub type Values = Result<(u64, u64), Refusal>;
 

@@ -1,8 +1,9 @@
-//! What calls, queries and comparisons told, counted.
+//! What calls, queries, comparisons and calls on waiting strokes told, counted.
 use crate::call::{Call, Opcode, CALLS};
 use crate::pair::{Comparison, COMPARISONS};
 use crate::query::{Query, QUERIES};
-use crate::refusal::{Answer, Refusal, Signed, Values, REFUSALS};
+use crate::refusal::{Answer, Bounded, Refusal, Signed, Values, REFUSALS};
+use crate::waiting::{Waiting, WAITING};
 use std::io::Write;
 
 /// How often one of them was accepted, at 0, and met each refusal, at its number.
@@ -35,6 +36,7 @@ pub struct Tally {
     calls: [Told; CALLS],
     queries: [Told; QUERIES.len()],
     comparisons: [Told; COMPARISONS.len()],
+    waiting: [Told; WAITING.len()],
 }
 
 impl Tally {
@@ -48,6 +50,10 @@ impl Tally {
 
     pub fn note_comparison(&mut self, comparison: Comparison, told: Signed) {
         self.comparisons[comparison.index()].note(told.err());
+    }
+
+    pub fn note_waiting(&mut self, waiting: Waiting, told: Bounded) {
+        self.waiting[waiting.index()].note(told.err());
     }
 
     /// Whether a call was ever made.
@@ -70,12 +76,18 @@ impl Tally {
         COMPARISONS.into_iter().for_each(|c| self.comparisons[c.index()].expect(c.name(), c.refusals(), what));
     }
 
-    /// Prints how many calls were made, queries asked and strips compared, and how often each refusal was met.
+    /// Asserts that each call on waiting strokes was accepted, and met every refusal that it can and no other.
+    pub fn expect_waiting(&self, what: &str) {
+        WAITING.into_iter().for_each(|w| self.waiting[w.index()].expect(w.name(), w.refusals(), what));
+    }
+
+    /// Prints how many calls of each kind were made, and how often each refusal was met.
     pub fn print(&self, what: &str) {
         let adds = self.calls[Opcode::Push as usize].sum();
         print(what, &format!("calls, {adds} of them adds"), &self.calls);
         print(what, "queries", &self.queries);
         print(what, "comparisons", &self.comparisons);
+        print(what, "calls on waiting strokes", &self.waiting);
     }
 }
 

@@ -6,6 +6,7 @@ use strip_tests::model::{self, word_count};
 use strip_tests::pair::{counts, Comparison, COMPARISONS};
 use strip_tests::random::Random;
 use strip_tests::refusal::{Refusal, Signed};
+use strip_tests::strip::{both_handles, Strip};
 use strip_tests::tally::Tally;
 use strip_tests::{draw, Handle, Lent};
 use Comparison::{Both, Differ, Either, Find, OnlyFirst, Span};
@@ -14,60 +15,12 @@ use Refusal::{BadHandle, NotFound, Position, Unequal, WordCount};
 /// A span whose start is above its end.
 const REVERSED: Refusal = Refusal::Span;
 
-/// The bits of all words that are lent, the words, and the handle under which they are read.
-struct Strip {
-    handle: Handle,
-    bits: Vec<bool>,
-    lent: Lent,
-}
-
-impl Strip {
-    /// Of as many words as the capacity has.
-    fn new(length: u64, bits: Vec<bool>) -> Strip {
-        Strip::under(Handle { capacity: model::length(&bits), length }, bits)
-    }
-
-    /// Under any handle.
-    fn under(handle: Handle, bits: Vec<bool>) -> Strip {
-        let lent = Lent::new(&model::words_of(&bits));
-        Strip { handle, bits, lent }
-    }
-
-    /// So many words, all of the same bits, under any handle.
-    fn of_words(capacity: u64, length: u64, count: usize, bit: bool) -> Strip {
-        Strip::under(Handle { capacity, length }, vec![bit; 64 * count])
-    }
-
-    /// As many words as the capacity has, all of the same bits.
-    fn filled(capacity: u64, length: u64, bit: bool) -> Strip {
-        Strip::of_words(capacity, length, word_count(capacity), bit)
-    }
-
-    /// `text` at the start, all the same bits past it; capacity 512.
-    fn from_text(text: &str, past: bool) -> Strip {
-        let mut bits: Vec<bool> = text.chars().map(|c| c == '1').collect();
-        let length = model::length(&bits);
-        bits.resize(512, past);
-        Strip::new(length, bits)
-    }
-
-    /// The bits below the length.
-    fn strokes(&self) -> &[bool] {
-        &self.bits[..self.handle.length as usize]
-    }
-}
-
 fn ask(comparison: Comparison, first: &mut Strip, second: &mut Strip) -> Signed {
     comparison.told((first.handle, &mut first.lent), (second.handle, &mut second.lent))
 }
 
 fn owed(comparison: Comparison, first: &Strip, second: &Strip) -> Signed {
     comparison.owed((first.handle, &first.bits), (second.handle, &second.bits))
-}
-
-fn both_handles(first: &Strip, second: &Strip) -> String {
-    let [x, y] = [first, second].map(|strip| format!("{:?}, {} words", strip.handle, strip.lent.count()));
-    format!("under {x}; {y}")
 }
 
 /// Asks, and asserts that the answer is this.
@@ -438,11 +391,7 @@ fn largest_strips() {
     cases.run(|random| {
         let [mut first, mut second] = [0; 2].map(|_| {
             let words: Vec<u64> = (0..word_count(LARGEST)).map(|_| random.number()).collect();
-            Strip {
-                handle: Handle { capacity: LARGEST, length: 0 },
-                bits: model::bits_of(&words),
-                lent: Lent::new(&words),
-            }
+            Strip::from_words(LARGEST, 0, &words)
         });
         for length in [LARGEST, LARGEST - 77] {
             (first.handle.length, second.handle.length) = (length, length);
@@ -639,16 +588,6 @@ fn pairs_of_refusals() {
     }
 }
 
-/// A strip with faults: how a handle may be bad, and the words too few, too many or none.
-fn faulty(good: Handle, handle: Option<usize>, words: Option<usize>, bit: bool) -> Strip {
-    let Handle { capacity: c, length: n } = good;
-    let list = [(c, c + 1), (c - 1, n), (0, 0), (WIDE + c, n), (LARGEST + 512, n), (c, u64::MAX)];
-    let (capacity, length) = handle.map_or((c, n), |way| list[way % list.len()]);
-    let needed = word_count(c);
-    let count = words.map_or(needed, |way| [needed - 1, needed + 1, 0][way % 3]);
-    Strip::of_words(capacity, length, count, bit)
-}
-
 /// Every set of faults at once: the first in the order 1, 2 of the first strip, 1, 2 of the second, 16, then the call's own
 /// is the answer.
 #[test]
@@ -659,8 +598,8 @@ fn first_refusal_wins() {
             let fault = |n: u32| has(n).then_some(way);
             let first = Handle { capacity: 1024, length: 700 };
             let second = Handle { capacity: if has(4) { 1536 } else { 1024 }, length: if has(5) { 701 } else { 700 } };
-            let mut first = faulty(first, fault(0), fault(1), true);
-            let mut second = faulty(second, fault(2), fault(3), has(6));
+            let mut first = Strip::faulty(first, fault(0), fault(1), true);
+            let mut second = Strip::faulty(second, fault(2), fault(3), has(6));
             let of_strips = [
                 (has(0), BadHandle),
                 (has(1), WordCount),
@@ -713,28 +652,6 @@ fn no_words() {
 
 // ---- any strips
 
-/// A strip as it is, or with another handle, another number of words, or under another capacity or length.
-fn altered(random: &mut Random, strip: Strip) -> Strip {
-    let Handle { capacity, length } = strip.handle;
-    let mut bits = strip.bits;
-    let h = match random.below(40) {
-        0 => Handle { capacity: BAD_CAPACITIES[random.below(BAD_CAPACITIES.len())], length },
-        1 => Handle { capacity, length: capacity + 1 + random.number_below(3) * WIDE },
-        2 | 3 => {
-            let count = [bits.len() - 64, bits.len() + 64, 0, 2 * bits.len()][random.below(4)];
-            bits.resize(count, true);
-            strip.handle
-        }
-        4 => {
-            bits.resize(bits.len() + 512, random.below(2) == 0);
-            Handle { capacity: capacity + 512, length }
-        }
-        5 => Handle { capacity, length: random.number_below(capacity + 1) },
-        _ => strip.handle,
-    };
-    Strip::under(h, bits)
-}
-
 /// Strips and comparisons drawn at random: each comparison tells all that it can.
 #[test]
 fn any_strips() {
@@ -747,7 +664,7 @@ fn any_strips() {
             let past = PAST[random.below(PAST.len())];
             let [first, second] = drawn(random, capacity, length, density, past);
             let strokes = [&first, &second].map(|strip| strip.strokes().to_vec());
-            let (mut first, mut second) = (altered(random, first), altered(random, second));
+            let (mut first, mut second) = (first.altered(random), second.altered(random));
             for call in 0..60 {
                 at_call(call);
                 let kind = COMPARISONS[call % COMPARISONS.len()];
