@@ -1,6 +1,7 @@
-//! Which words the calls on two strips read: of either strip those that hold what is asked for, and no other. The others are
-//! lent in closed pages. A call that reads one of them, or writes any, is not told as a failed test: a signal ends the
-//! process of this file, and `--test-threads=1` shows in which test.
+//! Which words the calls on two strips read, a strip's waiting strip being the second of two: of either strip those that hold
+//! what is asked for, and no other. The others are lent in closed pages. A call that reads one of them, or writes any, is not
+//! told as a failed test: a signal ends the process of this file, and `--test-threads=1` shows in which test.
+use std::fmt::Debug;
 use std::ops::Range;
 use strip_tests::borders::{beside, FAR};
 use strip_tests::cases::Cases;
@@ -8,7 +9,8 @@ use strip_tests::model::{self, word_count};
 use strip_tests::pages::{Pages, PAGE};
 use strip_tests::pair::{counts, Comparison};
 use strip_tests::random::Random;
-use strip_tests::refusal::{Refusal, Signed};
+use strip_tests::refusal::{Bounded, Bounds, Refusal, Signed};
+use strip_tests::waiting::{Pointers, Waiting};
 use strip_tests::Handle;
 use Comparison::{Find, Span};
 use Refusal::{BadHandle, NotFound, Position, Unequal, WordCount};
@@ -36,14 +38,30 @@ fn any_strips(random: &mut Random) -> [Strip; 2] {
 
 /// Asks where of either strip these words alone can be read, and asserts the answer: first with a closed page right before
 /// them, then with one right after them.
-fn expect(comparison: Comparison, [first, second]: [&Strip; 2], open: Range<usize>, wanted: Signed) {
+fn expect_of<T: Debug + PartialEq>(
+    what: impl Debug,
+    [first, second]: [&Strip; 2],
+    open: Range<usize>,
+    wanted: T,
+    ask: impl Fn(Pointers, Pointers) -> T,
+) {
     for border in [open.start, open.end] {
         let pages = [first, second].map(|strip| Pages::new(&strip.words, open.clone(), border));
         let [(xs, nx), (ys, ny)] = [pages[0].lend(), pages[1].lend()];
-        // SAFETY: the pointers are to nx and ny words, which live through the call; what it reads of them is under test.
-        let told = unsafe { comparison.ask((first.handle, xs, nx), (second.handle, ys, ny)) };
-        assert_eq!(told, wanted, "{comparison:?} under {:?} and {:?}, words {open:?}", first.handle, second.handle);
+        let told = ask((first.handle, xs, nx), (second.handle, ys, ny));
+        assert_eq!(told, wanted, "{what:?} under {:?} and {:?}, words {open:?}", first.handle, second.handle);
     }
+}
+
+fn expect(comparison: Comparison, strips: [&Strip; 2], open: Range<usize>, wanted: Signed) {
+    // SAFETY: the pointers are to so many words, which live through the call; what it reads of them is under test.
+    expect_of(comparison, strips, open, wanted, |first, second| unsafe { comparison.ask(first, second) });
+}
+
+/// The same of a strip and its waiting strip.
+fn expect_waiting(call: Waiting, strips: [&Strip; 2], open: Range<usize>, wanted: Bounded) {
+    // SAFETY: as in `expect`.
+    expect_of(call, strips, open, wanted, |strip, waiting| unsafe { call.ask(strip, waiting) });
 }
 
 /// Around the ends of the first words, of words at the borders of pages, and of the last word below the length.
@@ -129,6 +147,75 @@ fn span_reads() {
     });
 }
 
+/// A waiting count reads up to the word of position i - 1.
+#[test]
+fn waiting_count_reads() {
+    Cases::new("reads", "waiting_count_reads", 505).run(|random| {
+        let [strip, waiting] = any_strips(random);
+        let [xs, ys] = [&strip, &waiting].map(|strip| model::bits_of(&strip.words));
+        for i in positions().into_iter().chain([LENGTH]) {
+            let wanted = Waiting::Count(i).owed((strip.handle, &xs), (waiting.handle, &ys));
+            assert!(wanted.is_ok());
+            expect_waiting(Waiting::Count(i), [&strip, &waiting], 0..words_below(i), wanted);
+        }
+    });
+}
+
+/// A waiting find reads up to the word of the latest position, however early the earliest is; where some outcome has no k-th
+/// misfire, up to the last word that the length reaches.
+#[test]
+fn waiting_find_reads() {
+    let (mut cases, places) = (Cases::new("reads", "waiting_find_reads", 506), positions());
+    // what stands at the positions, all others being zeros: misfires, strokes that wait, or any of both
+    for way in 0..4 {
+        cases.run(|random| {
+            let [mut strip, mut waiting] = [0; 2].map(|_| strip(CAPACITY, LENGTH, vec![0; WORDS]));
+            let (mut sure, mut possible) = (Vec::new(), Vec::new());
+            for &p in &places {
+                let mark = [false, true, random.below(2) == 0, random.below(8) == 0][way];
+                let bit = !mark || random.below(2) == 0;
+                strip.words[p as usize / 64] |= u64::from(bit) << (p % 64);
+                waiting.words[p as usize / 64] |= u64::from(mark) << (p % 64);
+                possible.push(p);
+                sure.extend((!mark).then_some(p));
+            }
+            for (k, &low) in possible.iter().enumerate() {
+                let high = sure.get(k).copied();
+                let end = words_below(high.map_or(LENGTH, |latest| latest + 1));
+                expect_waiting(Waiting::Find(k as u64), [&strip, &waiting], 0..end, Ok(Bounds { low, high }));
+            }
+        });
+    }
+}
+
+/// A waiting find of what no outcome has reads up to the last word that the length reaches; with k not below the length,
+/// nothing. With every stroke waiting it reads as far, since some outcome has none.
+#[test]
+fn waiting_find_of_none_reads() {
+    Cases::new("reads", "waiting_find_of_none_reads", 507).run(|random| {
+        for length in positions().into_iter().chain([LENGTH]) {
+            let [mut strip, mut waiting] = any_strips(random);
+            (strip.handle.length, waiting.handle.length) = (length, length);
+            for (mark, wanted) in [(false, Err(NotFound)), (true, Ok(()))] {
+                // zeros below the length, all waiting or none; anything past it
+                for (place, (x, y)) in (0..).zip(strip.words.iter_mut().zip(&mut waiting.words)) {
+                    let below = length.saturating_sub(64 * place).min(64);
+                    let past = if below == 64 { 0 } else { u64::MAX << below };
+                    *x &= past;
+                    *y = *y & past | if mark { !past } else { 0 };
+                }
+                for k in [0, 1, length / 2, length.saturating_sub(1)].into_iter().filter(|k| *k < length) {
+                    let wanted = wanted.map(|()| Bounds { low: k, high: None });
+                    expect_waiting(Waiting::Find(k), [&strip, &waiting], 0..words_below(length), wanted);
+                }
+                for k in [length, length + 1, CAPACITY].into_iter().chain(FAR) {
+                    expect_waiting(Waiting::Find(k), [&strip, &waiting], 0..0, Err(NotFound));
+                }
+            }
+        }
+    });
+}
+
 /// A refused call reads nothing, but for a find's 6, which stands above.
 #[test]
 fn refused_read_nothing() {
@@ -148,12 +235,17 @@ fn refused_read_nothing() {
                 expect(comparison, [&good, &other], 0..0, Err(refusal));
                 expect(comparison, [&other, &good], 0..0, Err(refusal));
             }
+            for call in [Waiting::Count(i), Waiting::Find(i)] {
+                expect_waiting(call, [&good, &other], 0..0, Err(refusal));
+                expect_waiting(call, [&other, &good], 0..0, Err(refusal));
+            }
         }
     }
     for above in [LENGTH + 1, CAPACITY, CAPACITY + 1].into_iter().chain(FAR) {
         for comparison in counts(above).into_iter().chain([Span(0, above), Span(LENGTH, above), Span(above, above)]) {
             expect(comparison, [&good, &good], 0..0, Err(Position));
         }
+        expect_waiting(Waiting::Count(above), [&good, &good], 0..0, Err(Position));
         for b in [0, 64, LENGTH, above - 1] {
             expect(Span(above, b), [&good, &good], 0..0, Err(Refusal::Span));
         }
