@@ -6,9 +6,9 @@
  * written. Each round draws a record, an image and two strips, and makes calls of every kind on them; round 0 is that
  * of the largest. A round draws from the seed and its number, which a failure tells; with ROUND it runs alone. Held
  * here is that a call touches nothing that was not lent, tells nothing that it may not tell, and changes nothing where
- * it is refused or only reads; the sizes, look, next, prior, the six calls on two strips, freezing, opening, the labels
- * and lengths of rows and their readings are held to common/judge.h in full. At the end of all rounds every function
- * has been accepted and has met every refusal of its line. */
+ * it is refused or only reads; the sizes, look, next, prior, the eight calls on two strips, freezing, opening, the
+ * labels and lengths of rows and their readings are held to common/judge.h in full. At the end of all rounds every
+ * function has been accepted and has met every refusal of its line. */
 #include "lend.h"
 
 #include "judge.h"
@@ -26,9 +26,9 @@ enum { MOST_IMAGE = 16 + 16 + 528 * 32768 + 64, SCRIPT = 24 };
 /* Those of libstrips.a, the display's six last, then those of libtesting.a. */
 enum call {
     COUNTER_COUNT, CREATE, PUSH, FLIP, FILL, TRUNCATE, GET, RANK, SELECT, SUCCESSOR, PREDECESSOR, VERIFY, PAIR_BOTH,
-    PAIR_EITHER, PAIR_ONLY_FIRST, PAIR_DIFFER, PAIR_FIND, PAIR_SPAN, RECORD_SIZE, CLEAR, FREEZE, INSPECT, ROW_RANK,
-    ROW_SELECT, ROW_GET, ROW_LENGTH, ROW_LABEL, SELECT_IN_WORD, OPEN, PART_GET, PART_RANK, PART_SELECT, OPENED_GET,
-    OPENED_RANK, OPENED_SELECT, EXECUTE, STEP, CALLS
+    PAIR_EITHER, PAIR_ONLY_FIRST, PAIR_DIFFER, PAIR_FIND, PAIR_SPAN, WAITING_COUNT, WAITING_FIND, RECORD_SIZE, CLEAR,
+    FREEZE, INSPECT, ROW_RANK, ROW_SELECT, ROW_GET, ROW_LENGTH, ROW_LABEL, SELECT_IN_WORD, OPEN, PART_GET, PART_RANK,
+    PART_SELECT, OPENED_GET, OPENED_RANK, OPENED_SELECT, EXECUTE, STEP, CALLS
 };
 
 #define R(n) (1u << (n))
@@ -62,6 +62,8 @@ static const struct {
     [PAIR_DIFFER] = {"strip_pair_differ", PAIR | R(STRIP_POSITION)},
     [PAIR_FIND] = {"strip_pair_find", PAIR | R(STRIP_NOT_FOUND)},
     [PAIR_SPAN] = {"strip_pair_span", PAIR | R(STRIP_SPAN) | R(STRIP_POSITION)},
+    [WAITING_COUNT] = {"strip_waiting_count", PAIR | R(STRIP_POSITION)},
+    [WAITING_FIND] = {"strip_waiting_find", PAIR | R(STRIP_NOT_FOUND)},
     [RECORD_SIZE] = {"image_record_size", R(STRIP_POSITION)},
     [CLEAR] = {"image_clear", R(STRIP_NO_ROOM)},
     [FREEZE] = {"image_freeze",
@@ -282,58 +284,57 @@ static void bytes_drawn(uint8_t *at, size_t n, unsigned kind)
         at[b] = kind == 0 ? 0 : kind == 1 ? 255 : kind == 2 ? number() & number() & number() : number();
 }
 
-/* The five numbers that a change tells, and after them untouched ones. */
-struct five {
+/* The numbers that a call writes to `out`, and after them untouched ones. */
+struct out {
     struct lent lent;
     uint64_t *at;
-    size_t room;
+    size_t room, numbers;
 };
 
-static struct five lend_five(void)
+static struct out lend_out(size_t numbers)
 {
-    struct five f;
-    f.room = one_in(12) ? below(5) : 5 + (one_in(4) ? below(4) : 0);
-    f.lent = lend(&out_memory, 8 * f.room, at_end);
-    for (size_t k = 0; k < f.room; k++)
-        ((uint64_t *)f.lent.write)[k] = UNTOUCHED;
-    if (f.room >= 5)
-        VALGRIND_MAKE_MEM_UNDEFINED(f.lent.write, 40);
-    f.at = lent_at(f.lent, 1);
-    return f;
+    struct out o = {{0}, NULL, one_in(12) ? below(numbers) : numbers + (one_in(4) ? below(4) : 0), numbers};
+    o.lent = lend(&out_memory, 8 * o.room, at_end);
+    for (size_t k = 0; k < o.room; k++)
+        ((uint64_t *)o.lent.write)[k] = UNTOUCHED;
+    if (o.room >= numbers)
+        VALGRIND_MAKE_MEM_UNDEFINED(o.lent.write, 8 * numbers);
+    o.at = lent_at(o.lent, 1);
+    return o;
 }
 
-/* After the call: whether it ran, its refusal noted, and no number past the fifth written. */
-static int told_five(enum call call, struct five f)
+/* After the call: whether it ran, its refusal noted, and no number past its own written. */
+static int told_out(enum call call, struct out o)
 {
-    uint64_t *out = (uint64_t *)f.lent.write;
-    give_back(f.lent);
-    for (size_t k = f.room < 5 ? 0 : 5; k < f.room; k++)
-        expect(call, out[k] == UNTOUCHED, "wrote past the five numbers, or to fewer");
-    if (f.room < 5) {
+    uint64_t *out = (uint64_t *)o.lent.write;
+    give_back(o.lent);
+    for (size_t k = o.room < o.numbers ? 0 : o.numbers; k < o.room; k++)
+        expect(call, out[k] == UNTOUCHED, "wrote past its numbers, or to fewer");
+    if (o.room < o.numbers) {
         calls[call]++;
         return 0;
     }
-    expect(call, VALGRIND_CHECK_MEM_IS_DEFINED(out, 40) == 0, "left one of the five numbers unset");
+    expect(call, VALGRIND_CHECK_MEM_IS_DEFINED(out, 8 * o.numbers) == 0, "left one of its numbers unset");
     note(call, out[0]);
     return 1;
 }
 
 /* One change with drawn arguments, under the handle of c and n. What create is lent is not set. */
-static void make_change(const struct record *r, enum call call, uint64_t c, uint64_t n, struct five f)
+static void make_change(const struct record *r, enum call call, uint64_t c, uint64_t n, struct out o)
 {
     uint64_t i = position(r->length), k = one_in(2) ? i + below(200) : position(r->length), v = value();
     if (call == CREATE) {
         VALGRIND_MAKE_MEM_UNDEFINED(r->words.write, r->words.length);
         VALGRIND_MAKE_MEM_UNDEFINED(r->counters.write, r->counters.length);
-        strip_create(c, WORDS_MUT(r), COUNTERS_MUT(r), f.at, f.room);
+        strip_create(c, WORDS_MUT(r), COUNTERS_MUT(r), o.at, o.room);
     } else if (call == PUSH) {
-        strip_push(c, n, WORDS_MUT(r), COUNTERS_MUT(r), v, f.at, f.room);
+        strip_push(c, n, WORDS_MUT(r), COUNTERS_MUT(r), v, o.at, o.room);
     } else if (call == FLIP) {
-        strip_flip(c, n, WORDS_MUT(r), COUNTERS_MUT(r), i, f.at, f.room);
+        strip_flip(c, n, WORDS_MUT(r), COUNTERS_MUT(r), i, o.at, o.room);
     } else if (call == FILL) {
-        strip_fill(c, n, WORDS_MUT(r), COUNTERS_MUT(r), i, k, v, f.at, f.room);
+        strip_fill(c, n, WORDS_MUT(r), COUNTERS_MUT(r), i, k, v, o.at, o.room);
     } else {
-        strip_truncate(c, n, WORDS_MUT(r), COUNTERS_MUT(r), i, f.at, f.room);
+        strip_truncate(c, n, WORDS_MUT(r), COUNTERS_MUT(r), i, o.at, o.room);
     }
 }
 
@@ -348,12 +349,12 @@ static int all_set(struct lent l)
 static void change(struct record *r, enum call call)
 {
     uint64_t c = some_capacity(r), n = some_length(r);
-    struct five f = lend_five();
-    uint64_t *out = (uint64_t *)f.lent.write;
+    struct out o = lend_out(STRIP_OUT);
+    uint64_t *out = (uint64_t *)o.lent.write;
     keep(&words_copy, r->words);
     keep(&counters_copy, r->counters);
-    make_change(r, call, c, n, f);
-    if (told_five(call, f) && out[0] == 0) {
+    make_change(r, call, c, n, o);
+    if (told_out(call, o) && out[0] == 0) {
         expect(call, all_set(r->words) && all_set(r->counters), "left a number unset");
         expect(call, out[3] == c && out[4] <= c, "a wrong handle given back");
         r->capacity = out[3];
@@ -363,7 +364,7 @@ static void change(struct record *r, enum call call)
     VALGRIND_MAKE_MEM_DEFINED(r->words.write, r->words.length);
     VALGRIND_MAKE_MEM_DEFINED(r->counters.write, r->counters.length);
     expect(call, same(&words_copy, r->words) && same(&counters_copy, r->counters), "refused, and changed the record");
-    if (f.room >= 5 && call != CREATE)
+    if (o.room >= STRIP_OUT && call != CREATE)
         expect(call, out[3] == c && out[4] == n, "refused, and another handle given back");
 }
 
@@ -538,6 +539,42 @@ static void compare_strips(struct record x, struct record y)
     hold_span(&x, &y, a, b, pair_span_answer(first, second, a, b));
 }
 
+/* Whether strip_waiting_find told a latest position, at 1, and that some outcome has none, at 0. */
+static int certain_told[2];
+
+static void hold_waiting(enum call call, const struct record *x, const struct record *y, uint64_t at,
+                         struct waiting_answer wanted)
+{
+    struct out o = lend_out(call == WAITING_COUNT ? STRIP_WAITING_COUNT_OUT : STRIP_WAITING_FIND_OUT);
+    uint64_t *out = (uint64_t *)o.lent.write;
+    if (call == WAITING_COUNT)
+        strip_waiting_count(STRIPS, at, o.at, o.room);
+    else
+        strip_waiting_find(STRIPS, at, o.at, o.room);
+    if (!told_out(call, o))
+        return;
+    for (size_t k = 0; k < o.numbers; k++)
+        expect(call, out[k] == wanted.numbers[k], "another answer");
+    if (call == WAITING_FIND && out[0] == 0)
+        certain_told[out[2]] = 1;
+}
+
+/* The first as a strip, the second as its waiting strip, with drawn arguments and handles; k at times around the ones
+ * that every outcome has, or that some outcome has. */
+static void read_waiting(struct record x, struct record y)
+{
+    uint64_t n = x.length, i = position(n);
+    x.capacity = some_capacity(&x);
+    x.length = some_length(&x);
+    y.capacity = some_capacity(&y);
+    y.length = some_length(&y);
+    struct strip strip = strip_of(&x), waiting = strip_of(&y);
+    struct waiting_answer ones = waiting_count_answer(strip, waiting, x.length);
+    uint64_t k = one_in(2) ? position(one_in(2) ? n : n / 2) : near(ones.numbers[1 + below(2)]);
+    hold_waiting(WAITING_COUNT, &x, &y, i, waiting_count_answer(strip, waiting, i));
+    hold_waiting(WAITING_FIND, &x, &y, k, waiting_find_answer(strip, waiting, k));
+}
+
 /* Two strips of their own, in either order. */
 static void two_strips(void)
 {
@@ -547,6 +584,10 @@ static void two_strips(void)
     for (unsigned k = capacity > 100000 ? 1 : 3; k > 0; k--) {
         compare_strips(first, second);
         compare_strips(second, first);
+    }
+    for (unsigned k = capacity > 100000 ? 1 : 3; k > 0; k--) {
+        read_waiting(first, second);
+        read_waiting(second, first);
     }
     if (second.words.of != first.words.of)
         give_back(second.words);
@@ -800,13 +841,13 @@ static void step(struct record *r)
 {
     uint64_t call[4], c = some_capacity(r), n = some_length(r);
     drawn_call(r, call);
-    struct five f = lend_five();
+    struct out o = lend_out(STRIP_OUT);
     keep_all(r);
     gaps(open_bytes);
     strip_step(call[0], call[1], call[2], call[3], c, n, WORDS_MUT(r), COUNTERS_MUT(r), lent_at(image, 1), image.length,
-               f.at, f.room);
-    uint64_t *out = (uint64_t *)f.lent.write;
-    int accepted = told_five(STEP, f) && out[0] == 0;
+               o.at, o.room);
+    uint64_t *out = (uint64_t *)o.lent.write;
+    int accepted = told_out(STEP, o) && out[0] == 0;
     expect(STEP, (accepted && changes_record(call[0])) || same_record(r), "changed the record");
     expect(STEP, (accepted && changes_image(call[0])) || same(&image_copy, image), "changed the image");
     if (accepted && changes_record(call[0])) {
@@ -917,6 +958,23 @@ static void largest_strips(void)
     give_back(none.words);
 }
 
+/* A strip of the greatest length, all ones: none waits; and one without, of which all wait. */
+static void largest_waiting(void)
+{
+    struct record ones = {LARGEST, LARGEST, lend(&words_memory, LARGEST / 8, at_end), {0}};
+    struct record none = {LARGEST, LARGEST, lend(&second_memory, LARGEST / 8, at_end), {0}};
+    memset(ones.words.write, 255, ones.words.length);
+    memset(none.words.write, 0, none.words.length);
+    const uint64_t last = LARGEST - 1;
+    hold_waiting(WAITING_COUNT, &ones, &none, LARGEST, (struct waiting_answer){{0, LARGEST, LARGEST, 0}});
+    hold_waiting(WAITING_COUNT, &none, &ones, LARGEST, (struct waiting_answer){{0, 0, LARGEST, 0}});
+    hold_waiting(WAITING_FIND, &ones, &none, last, (struct waiting_answer){{0, last, 1, last}});
+    hold_waiting(WAITING_FIND, &none, &ones, last, (struct waiting_answer){{0, last, 0, 0}});
+    hold_waiting(WAITING_FIND, &none, &ones, LARGEST, waiting_refused(REFUSED(STRIP_NOT_FOUND)));
+    give_back(ones.words);
+    give_back(none.words);
+}
+
 /* An image of about 2^32 bytes with one row of `length` zeros at its end. Bytes that no call touches take no memory. */
 static void largest_image(size_t size, uint64_t length)
 {
@@ -976,6 +1034,7 @@ static void largest_round(void)
     for (int off = -1; off <= 1; off++)
         for (uint64_t length = 0; length <= 300; length += 300)
             largest_image(WIDE + off, length);
+    largest_waiting();
 }
 
 static void run_round(uint64_t number)
@@ -987,7 +1046,8 @@ static void run_round(uint64_t number)
         one_round();
 }
 
-/* Whether every function was accepted, and met every refusal of its line. */
+/* Whether every function was accepted, and met every refusal of its line; and strip_waiting_find told both kinds of
+ * answer. */
 static int all_met(void)
 {
     for (int call = 0; call < CALLS; call++) {
@@ -996,7 +1056,9 @@ static int all_met(void)
             return 0;
         }
     }
-    return 1;
+    if (!certain_told[0] || !certain_told[1])
+        printf("%s told one kind of answer alone\n", functions[WAITING_FIND].name);
+    return certain_told[0] && certain_told[1];
 }
 
 int main(int count, char **args)
