@@ -153,9 +153,8 @@ fn single_mark() {
             }
             expect(Find(capacity), &mut ones, &mut waiting, Err(NotFound));
             // past the length the mark is not there
-            for strip in [&mut zeros, &mut ones] {
+            for (strip, number) in [(&mut zeros, 0), (&mut ones, p)] {
                 (strip.handle.length, waiting.handle.length) = (p, p);
-                let number = if strip.bits[(p as usize + 1) % 1024] { p } else { 0 };
                 expect(Count(p), strip, &mut waiting, from_to(number, number));
                 expect(Count(p + 1), strip, &mut waiting, Err(Position));
                 expect(Find(number), strip, &mut waiting, Err(NotFound));
