@@ -220,11 +220,7 @@ fn cells<'a>(strip: &'a [bool], waiting: &'a [bool]) -> impl Iterator<Item = u8>
 
 /// How many misfires there are at least and at most once a cell is passed.
 fn pass((least, most): (u64, u64), cell: u8) -> (u64, u64) {
-    match cell {
-        0 => (least, most),
-        1 => (least + 1, most + 1),
-        _ => (least, most + 1),
-    }
+    (least + u64::from(cell == 1), most + u64::from(cell != 0))
 }
 
 /// Waiting count by a walk over the cells: 4.
@@ -234,13 +230,13 @@ pub fn waiting_count(strip: &[bool], waiting: &[bool], i: u64) -> Bounded {
     Ok(Bounds { low: least, high: Some(most) })
 }
 
-/// Waiting find by a walk over the cells: 6. A cell can be the k-th misfire where it can be 1 and k misfires can be before it,
+/// Waiting find by a walk over the cells: 6. A cell can be the k-th misfire where k misfires can be before it and it can be 1,
 /// so none can once there are more than k at least.
 pub fn waiting_find(strip: &[bool], waiting: &[bool], k: u64) -> Bounded {
     let (mut earliest, mut latest) = (None, None);
     let (mut least, mut most) = (0, 0);
     for (p, cell) in (0..).zip(cells(strip, waiting)) {
-        if cell != 0 && (least..=most).contains(&k) {
+        if (least..=most).contains(&k) && cell != 0 {
             earliest = earliest.or(Some(p));
             latest = Some(p);
         }
