@@ -21,6 +21,8 @@ CALLS = (
 PAIRS = (
     "pair both", "pair either", "pair only first", "pair differ", "pair find", "pair find, last", "pair span",
 )  # fmt: skip
+WAITING = ("waiting count", "waiting find", "waiting find, last", "waiting find, open")
+TWO_STRIPS = PAIRS + WAITING
 COLUMNS = ("library", "C++", "C++, checked", "scan", "scan, popcnt", "sdsl", "CRoaring")
 PAIR, NOISE, CHECKED = "library / C++", "C++ again / C++", "library / C++, checked"
 # A ratio that differs more than this from the quotient of the two times is marked.
@@ -40,9 +42,11 @@ SUMMARY = (
     ("pair count", ("pair differ", "pair both", "pair either", "pair only first"), ()),
     ("pair find", ("pair find", "pair find, last"), ()),
     ("pair span", ("pair span",), ()),
+    ("waiting count", ("waiting count",), ("two passes",)),
+    ("waiting find", WAITING[1:], ()),
 )
 # The calls that are to be no slower than the C++ version.
-HELD = ("count", "find 1", "find 0", "turn", "add", "run", *PAIRS[:6])
+HELD = ("count", "find 1", "find 0", "turn", "add", "run", *PAIRS[:6], *WAITING)
 # What callgrind counted under these names.
 FUNCTIONS = {
     "count": ("strip_rank", "tree_rank"),
@@ -66,6 +70,8 @@ FUNCTIONS = {
     "pair differ": ("strip_pair_differ", "pair_differ"),
     "pair find": ("strip_pair_find", "pair_find"),
     "pair span": ("strip_pair_span", "pair_span"),
+    "waiting count": ("strip_waiting_count", "waiting_count"),
+    "waiting find": ("strip_waiting_find", "waiting_find"),
 }
 
 
@@ -140,7 +146,7 @@ def calls_table(of, power):
 
 
 def cells(call=None):
-    return [(power, share) for power in POWERS for share in SHARES if call not in PAIRS or share == "32/64"]
+    return [(power, share) for power in POWERS for share in SHARES if call not in TWO_STRIPS or share == "32/64"]
 
 
 def within(of, kind, power, share, call, pair):
@@ -236,15 +242,20 @@ def others_table(of):
     return table(["aim", "bits", "reached, by ones 1/64, 32/64, 63/64", ""], rows)
 
 
-def pairs_table(of):
+def two_strips_table(of, calls, others=()):
+    """Calls on two strips, beside C++, and beside other calls of the library with the same answers."""
     rows = []
     for power in POWERS:
-        for call in PAIRS:
+        for call in calls:
             key = power, "32/64", call
             low, middle, high = of.three("ratio-O2", *key, PAIR)
             times = [duration(of.time(*key, column)) for column in COLUMNS[:2]]
-            rows.append([f"2^{power}", call, *times, *(spread(of, key, pair) for pair in (PAIR, NOISE)), f"{middle:.2f} ({low:.2f}–{high:.2f})"])
-    return with_note(table(["bits", "call", "library", "C++", PAIR, "C++ / C++", "library / C++, -O2"], rows))
+            row = [f"2^{power}", call, *times, *(spread(of, key, pair) for pair in (PAIR, NOISE)), f"{middle:.2f} ({low:.2f}–{high:.2f})"]
+            for column in others:
+                row += [duration(of.time(*key, column)), spread(of, key, f"library / {column}")]
+            rows.append(row)
+    head = ["bits", "call", "library", "C++", PAIR, "C++ / C++", "library / C++, -O2"]
+    return with_note(table(head + [x for column in others for x in (column, f"library / {column}")], rows))
 
 
 def freeze_table(of):
@@ -370,8 +381,8 @@ def legend(parts, names, y):
 
 def ratios_plot(of):
     shapes = (("ring", "20"), ("square", "24"), ("triangle", "27"))
-    left, right, top, step = 140, WIDTH - 24, 70, 40
-    calls = CALLS + PAIRS
+    left, right, top, step = 160, WIDTH - 24, 70, 40
+    calls = CALLS + TWO_STRIPS
     high = max(of.three("ratio", p, "32/64", call, PAIR)[2] for p in POWERS for call in calls)
     high = max(1.5, math.ceil(10 * high) / 10)
     bottom = top + step * len(calls)
@@ -428,7 +439,8 @@ def main():
     tables = {
         "summary": summary_table, "machine": machine_table, "aims": aims_table, "others": others_table,
         "freeze": freeze_table, "alone": alone_table, "flips": flips_table, "instructions": instructions_table, "memory": memory_table, "stack": stack_table,
-        "size": size_table, "word": word_table, "pairs": pairs_table,
+        "size": size_table, "word": word_table, "pairs": lambda of: two_strips_table(of, PAIRS),
+        "waiting": lambda of: two_strips_table(of, WAITING, ("two passes",)),
     }  # fmt: skip
     made = {name: make(of) for name, make in tables.items()}
     made |= {f"2^{power}": calls_table(of, power) for power in POWERS}

@@ -1,9 +1,9 @@
 //! Times the calls on full strips and on a frozen row at 2^20, 2^24 and 2^27 bits and three densities of ones: the
 //! proved library; the same by hand in C++ (tree.cpp, row.cpp), twice, to know the noise; count, find, turn and add by
 //! hand with the library's checks; a plain scan; sdsl-lite and CRoaring where they are installed; and memcpy beside
-//! freeze; and the calls on two strips, half ones, beside pair.cpp. All stand in one run, in alternating rounds. Each
-//! measurement asks for fresh random places, and follows one of the same kind that does not count. Prints lines of
-//! tab-separated fields:
+//! freeze; and the calls on two strips, half ones, beside pair.cpp, and those on a strip, half ones, and its waiting
+//! strip, 1/64 marks, beside waiting.cpp. All stand in one run, in alternating rounds. Each measurement asks for fresh
+//! random places, and follows one of the same kind that does not count. Prints lines of tab-separated fields:
 //!   time   power  density  call  column  lower quartile, median, upper quartile, in ns a call
 //!   ratio  power  density  call  columns  the same, over the rounds
 //!   bytes  power  density  what  bytes
@@ -21,6 +21,7 @@ mod pair;
 mod record;
 mod row;
 mod scan;
+mod waiting;
 
 use other::{Roaring, Sdsl};
 use pair::{Pair, Rule};
@@ -29,6 +30,7 @@ use record::Record;
 use row::Row;
 use std::hint::black_box;
 use std::time::Instant;
+use waiting::Waiting;
 
 extern "C" {
     fn tree_select_in_word(x: u64, k: usize) -> usize;
@@ -52,6 +54,10 @@ enum Call {
     PairFind,
     PairLast,
     PairSpan,
+    WaitingCount,
+    WaitingFind,
+    WaitingLast,
+    WaitingOpen,
 }
 use Call::*;
 
@@ -81,11 +87,20 @@ const PAIRS: [(Call, &str); 7] = [
     (PairSpan, "pair span"),
 ];
 
+/// The finds: of a misfire in the middle, of the last that every outcome has, and of one that only some have.
+const WAITING: [(Call, &str); 4] = [
+    (WaitingCount, "waiting count"),
+    (WaitingFind, "waiting find"),
+    (WaitingLast, "waiting find, last"),
+    (WaitingOpen, "waiting find, open"),
+];
+
 #[derive(Clone, Copy, PartialEq)]
 enum Column {
     Library,
     Hand,
     Again,
+    Passes,
     Checked,
     Popcnt,
     Scan,
@@ -94,16 +109,24 @@ enum Column {
     Memcpy,
 }
 
-const COLUMNS: [(Column, &str); 9] = [
+const COLUMNS: [(Column, &str); 10] = [
     (Column::Library, "library"),
     (Column::Hand, "C++"),
     (Column::Again, "C++ again"),
+    (Column::Passes, "two passes"),
     (Column::Checked, "C++, checked"),
     (Column::Popcnt, "scan, popcnt"),
     (Column::Scan, "scan"),
     (Column::Sdsl, "sdsl"),
     (Column::Roaring, "CRoaring"),
     (Column::Memcpy, "memcpy"),
+];
+
+const RATIOS: [(Column, Column, &str); 4] = [
+    (Column::Library, Column::Hand, "library / C++"),
+    (Column::Again, Column::Hand, "C++ again / C++"),
+    (Column::Library, Column::Checked, "library / C++, checked"),
+    (Column::Library, Column::Passes, "library / two passes"),
 ];
 
 /// The finds on two strips that make a figure.
@@ -140,6 +163,15 @@ fn time(queries: &[usize], pace: Pace, mut call: impl FnMut(usize) -> usize) -> 
 
 const PACE: Pace = Pace { part: 1000, waits: false };
 
+/// The two answers of a waiting call as one number, so that both are used.
+fn sum((least, most): (usize, usize)) -> usize {
+    least + most
+}
+
+fn found((earliest, latest): (usize, Option<usize>)) -> usize {
+    earliest + latest.unwrap_or_default()
+}
+
 /// Lower quartile, median, upper quartile.
 fn quartiles(mut figures: Vec<f64>) -> Option<[f64; 3]> {
     figures.sort_by(f64::total_cmp);
@@ -157,7 +189,7 @@ fn word(random: &mut Random, share: usize) -> u64 {
     }
 }
 
-/// Strip, row and the rest over the same bits; the pair has a second strip beside it.
+/// Strip, row and the rest over the same bits; the pair has a second strip beside it, and `waiting` its waiting strip.
 struct Bench {
     bits: usize,
     share: usize,
@@ -166,6 +198,7 @@ struct Bench {
     record: Record,
     row: Row,
     pair: Pair,
+    waiting: Waiting,
     sdsl: Option<Sdsl>,
     roaring: Option<Roaring>,
     random: Random,
@@ -180,15 +213,20 @@ impl Bench {
         let record = Record::new(&words, huge);
         let (sdsl, roaring) = if others { (Sdsl::new(&words), Roaring::new(&words)) } else { (None, None) };
         let (ones, row) = (record.rank(1, bits), Row::new(&words));
-        let mut second = Random::new(2);
-        let pair = Pair::new(words.clone(), words.iter().map(|_| word(&mut second, share)).collect());
-        Bench { bits, share, words, ones, record, row, pair, sdsl, roaring, random, waits: false }
+        let beside = |seed: u64, share: usize| {
+            let mut random = Random::new(seed);
+            words.iter().map(|_| word(&mut random, share)).collect()
+        };
+        let pair = Pair::new(words.clone(), beside(2, share));
+        let waiting = Waiting::new(words.clone(), beside(3, 1));
+        Bench { bits, share, words, ones, record, row, pair, waiting, sdsl, roaring, random, waits: false }
     }
 
     /// Random queries of a call. A find on two strips reads up to its k, so those of one figure take theirs from as
-    /// many equal parts; the other calls on two strips go over the whole of both.
+    /// many equal parts, and a waiting find takes one fixed k; the other calls on two strips go over the whole of both.
     fn queries(&mut self, call: Call, count: usize) -> Vec<usize> {
         let (random, bits, last) = (&mut self.random, self.bits, self.pair.differing - 1);
+        let Waiting { least, most, .. } = self.waiting;
         let mut below = |n: usize| (0..count).map(|_| random.below(n)).collect::<Vec<_>>();
         match call {
             Find(0) => below(bits - self.ones),
@@ -200,7 +238,10 @@ impl Bench {
                 below(last).iter().enumerate().map(|(j, k)| (last * (j % parts) + k) / parts).collect()
             }
             PairLast => vec![last; count],
-            PairCount(_) | PairSpan => vec![bits; count],
+            PairCount(_) | PairSpan | WaitingCount => vec![bits; count],
+            WaitingFind => vec![least / 2; count],
+            WaitingLast => vec![least - 1; count],
+            WaitingOpen => vec![(least + most) / 2; count],
             _ => below(bits),
         }
     }
@@ -216,6 +257,7 @@ impl Bench {
             (Run | Check | Freeze | Inspect, _) => ((near / self.bits).clamp(1, 16), 1),
             (PairFind, _) => (PARTS * (near / self.bits).clamp(3, 8), PARTS),
             (PairCount(_) | PairLast | PairSpan, _) => ((near / self.bits).clamp(4, 16), 1),
+            (WaitingCount | WaitingFind | WaitingLast | WaitingOpen, _) => ((near / self.bits).clamp(4, 16), 1),
             _ => (20_000, 1000),
         }
     }
@@ -227,6 +269,8 @@ impl Bench {
         match column {
             Column::Library => self.library(call, &q, pace),
             Column::Hand | Column::Again => self.hand(call, &q, pace),
+            Column::Passes if call == WaitingCount => time(&q, pace, |i| sum(self.waiting.passes(i))),
+            Column::Passes => Vec::new(),
             Column::Checked => self.checked(call, &q, pace),
             Column::Scan => self.scan(call, &q, pace),
             Column::Popcnt => self.popcnt(call, &q, pace),
@@ -258,7 +302,7 @@ impl Bench {
 
     fn library(&mut self, call: Call, q: &[usize], pace: Pace) -> Vec<f64> {
         let mut next = self.prepare(call, q.len());
-        let (r, row, pair) = (&mut self.record, &mut self.row, &self.pair);
+        let (r, row, pair, waiting) = (&mut self.record, &mut self.row, &self.pair, &self.waiting);
         let times = match call {
             Count => time(q, pace, |i| r.rank(1, i)),
             Find(v) => time(q, pace, |k| r.select(v, k)),
@@ -275,6 +319,8 @@ impl Bench {
             PairCount(rule) => time(q, pace, |i| pair.count(rule, i)),
             PairFind | PairLast => time(q, pace, |k| pair.find(k)),
             PairSpan => time(q, pace, |b| pair.span(0, b) as usize),
+            WaitingCount => time(q, pace, |i| sum(waiting.count(i))),
+            WaitingFind | WaitingLast | WaitingOpen => time(q, pace, |k| found(waiting.find(k))),
         };
         self.restore(call);
         times
@@ -282,7 +328,7 @@ impl Bench {
 
     fn hand(&mut self, call: Call, q: &[usize], pace: Pace) -> Vec<f64> {
         let mut next = self.prepare(call, q.len());
-        let (r, row, pair) = (&mut self.record, &mut self.row, &self.pair);
+        let (r, row, pair, waiting) = (&mut self.record, &mut self.row, &self.pair, &self.waiting);
         let times = match call {
             Count => time(q, pace, |i| r.tree_rank(i)),
             Find(v) => time(q, pace, |k| r.tree_select(v, k)),
@@ -299,6 +345,8 @@ impl Bench {
             PairCount(rule) => time(q, pace, |i| pair.hand_count(rule, i)),
             PairFind | PairLast => time(q, pace, |k| pair.hand_find(k)),
             PairSpan => time(q, pace, |b| pair.hand_span(0, b) as usize),
+            WaitingCount => time(q, pace, |i| sum(waiting.hand_count(i))),
+            WaitingFind | WaitingLast | WaitingOpen => time(q, pace, |k| found(waiting.hand_find(k))),
         };
         self.restore(call);
         times
@@ -466,6 +514,23 @@ impl Bench {
         }
     }
 
+    /// The same for a strip and its waiting strip, with scans of the two outcomes between which all others lie.
+    fn compare_waiting(&mut self) {
+        let mut places = self.queries(Count, 6);
+        places.extend([0, 1, 63, 64, 65, self.bits - 1, self.bits]);
+        let Waiting { least, most, .. } = self.waiting;
+        let (waiting, [fewest, all]) = (&self.waiting, self.waiting.outcomes());
+        for i in &places {
+            let answer = (scan::rank(&fewest, *i), scan::rank(&all, *i));
+            assert!(waiting.count(*i) == answer && waiting.hand_count(*i) == answer && waiting.passes(*i) == answer);
+        }
+        let ends = [least / 2, least - 1, least, (least + most) / 2, most - 1];
+        for k in places.iter().map(|i| i % most).chain(ends) {
+            let answer = (scan::select(&all, 1, k), (k < least).then(|| scan::select(&fewest, 1, k)));
+            assert!(waiting.find(k) == answer && waiting.hand_find(k) == answer);
+        }
+    }
+
     /// Rounds of these calls and columns; prints the figures under the calls' names and a note.
     fn run(&mut self, calls: &[(Call, &str)], columns: &[(Column, &str)], note: &str, rounds: usize) {
         let mut figures = vec![vec![Vec::new(); columns.len()]; calls.len()];
@@ -486,10 +551,9 @@ impl Bench {
                     println!("time\t{at}\t{name}{note}\t{column}\t{a:.2}\t{b:.2}\t{c:.2}");
                 }
             }
-            for (y, z, pair) in [(0, 1, "library / C++"), (2, 1, "C++ again / C++"), (0, 3, "library / C++, checked")] {
-                if columns.len() <= z {
-                    continue;
-                }
+            for (over, under, pair) in RATIOS {
+                let place = |column: Column| columns.iter().position(|x| x.0 == column);
+                let (Some(y), Some(z)) = (place(over), place(under)) else { continue };
                 let medians = |y: usize| figures[x][y].iter().filter_map(|f| Some(quartiles(f.clone())?[1]));
                 let ratios = medians(y).zip(medians(z)).map(|(a, b)| a / b).collect();
                 if let Some([a, b, c]) = quartiles(ratios) {
@@ -497,6 +561,14 @@ impl Bench {
                 }
             }
         }
+    }
+
+    /// The calls on two strips.
+    fn two_strips(&mut self, rounds: usize) {
+        self.compare_pairs();
+        self.run(&PAIRS, &COLUMNS[..3], "", rounds);
+        self.compare_waiting();
+        self.run(&WAITING, &COLUMNS[..4], "", rounds);
     }
 }
 
@@ -536,12 +608,13 @@ fn word_select(rounds: usize) {
     }
 }
 
-/// As many calls of each kind, for a counter of instructions; the whole-record calls a hundredth of them.
+/// As many calls of each kind, for a counter of instructions; those that go over words a hundredth of them.
 fn calls(power: u32, count: usize) {
     let mut bench = Bench::new(power, 32, false, false);
-    for (call, _) in CALLS.into_iter().chain(PAIRS).filter(|(call, _)| !matches!(call, Find(0) | PairLast)) {
-        let whole = matches!(call, Run | Check | Freeze | Inspect | PairCount(_) | PairFind | PairSpan);
-        let q = bench.queries(call, if whole { count / 100 } else { count });
+    let others = [Find(0), PairLast, WaitingLast, WaitingOpen];
+    for (call, _) in CALLS.into_iter().chain(PAIRS).chain(WAITING).filter(|(call, _)| !others.contains(call)) {
+        let single = [Count, Find(1), Turn, Flip, Add, Next, RowCount, RowFind].contains(&call);
+        let q = bench.queries(call, if single { count } else { count / 100 });
         bench.library(call, &q, PACE);
         bench.hand(call, &q, PACE);
         bench.checked(call, &q, PACE);
@@ -560,8 +633,7 @@ fn main() {
     for power in if powers.is_empty() { vec![20, 24, 27] } else { powers } {
         if mode == "pairs" {
             let mut bench = Bench::new(power, 32, false, false);
-            bench.compare_pairs();
-            bench.run(&PAIRS, &COLUMNS[..3], "", rounds);
+            bench.two_strips(rounds);
             continue;
         }
         for share in [1, 32, 63] {
@@ -576,8 +648,7 @@ fn main() {
             }
             bench.run(&CALLS, &COLUMNS, "", rounds);
             if share == 32 {
-                bench.compare_pairs();
-                bench.run(&PAIRS, &COLUMNS[..3], "", rounds);
+                bench.two_strips(rounds);
             }
         }
         let calls = [(Count, "count"), (Find(1), "find 1"), (Turn, "turn")];

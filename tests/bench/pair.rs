@@ -21,7 +21,7 @@ pub enum Rule {
 use Rule::*;
 
 pub struct Pair {
-    bits: u64,
+    pub bits: u64,
     first: Vec<u64>,
     second: Vec<u64>,
     /// The strokes judged differently.
@@ -52,7 +52,7 @@ impl Pair {
         [&self.first, &self.second].map(|words| words.iter().copied().chain([0]).collect())
     }
 
-    fn parts(&self) -> (*const u64, *const u64, usize) {
+    pub fn parts(&self) -> (*const u64, *const u64, usize) {
         (self.first.as_ptr(), self.second.as_ptr(), self.first.len())
     }
 
