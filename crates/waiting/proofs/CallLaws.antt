@@ -7,7 +7,6 @@ use native.Mathlib.Omega.{arith}
 use lib.ListN.{length}
 use Rattle.words.specs.declared.handle.Handle.{Handle}
 use Rattle.words.specs.Strip.{stripOf, rankOf, selectOf, rank, select}
-use Rattle.words.specs.Refusals.{Line, judge, Judged}
 use Rattle.words.proofs.CheckLaws.{not-both, judged-unique, right-number}
 use Rattle.words.proofs.SearchLaws.{select-beyond, placeIn-below, placeIn-past}
 use Rattle.words.proofs.StripLaws.{strip-length, strip-le}

@@ -1,17 +1,15 @@
 -- What a reader of the answers may conclude: where nothing waits, by the marks, by the counts, and as the pressure comes. Assumes nothing.
-use mathlib.Core.Path.{_≡_, refl, sym, ap, _∙_}
+use mathlib.Core.Path.{_≡_, sym, ap, _∙_}
 use mathlib.Core.List.{List}
 use mathlib.Core.Option.{some, none}
-use Prim.Native.Nat.{ℕ, zero, suc, min, _+_, _≤_, _<_}
-use native.Mathlib.Nat.{le-refl}
+use Prim.Native.Nat.{ℕ, min, _≤_, _<_}
 use native.Mathlib.Omega.{arith}
 use lib.ListN.{length}
 use Rattle.words.specs.Strip.{cell, rankOf, rank, select}
 use Rattle.words.proofs.CheckLaws.{not-both, same-some}
-use Rattle.words.proofs.SearchLaws.{rank-ones, select-exists, select-none}
-use Rattle.pairs.specs.Rules.{either, onlyFirst}
+use Rattle.words.proofs.SearchLaws.{select-exists, select-none}
 use Rattle.waiting.specs.Outcomes.{Outcome, Reached, RankRange, Earliest, Latest, SomeLacks, AllLack, NoneLacks}
-use Rattle.waiting.specs.Calls.{leastMost, fromTo, RightSelect}
+use Rattle.waiting.specs.Calls.{fromTo, RightSelect}
 use Rattle.waiting.proofs.OutcomeLaws.{itself, unmarked}
 
 module _ (s t : List ℕ) where

@@ -1,9 +1,8 @@
 -- `pairs::scan::joined_passed` meets its contract. The invariant: the words before `word` are passed, and `left` of the k remain; no word that is passed holds the
 -- one sought, since the ones from a word on are no more than its positions. Assumes nothing.
 use mathlib.Core.Path.{_≡_}
-use Prim.Native.Nat.{ℕ, _+_, _-_, _*_, _≤_}
+use Prim.Native.Nat.{_+_, _-_, _*_, _≤_}
 use native.Mathlib.Omega.{arith}
-use borrow.Author.Needs.{needs}
 use Rattle.words.specs.Strip.{rankOf}
 use Rattle.words.proofs.SearchLaws.{rank-from}
 use Rattle.pairs.specs.Rules.{ruleOf}

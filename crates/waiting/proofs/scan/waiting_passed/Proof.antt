@@ -3,7 +3,6 @@
 use mathlib.Core.Path.{_≡_}
 use Prim.Native.Nat.{_+_, _-_, _*_, _≤_}
 use native.Mathlib.Omega.{arith}
-use borrow.Author.Needs.{needs}
 use Rattle.words.specs.Strip.{holds, rankOf}
 use Rattle.words.proofs.Sums.{sum-zero}
 use Rattle.words.proofs.SearchLaws.{rank-from}
