@@ -384,6 +384,20 @@ fn every_position() {
     }
 }
 
+/// Every k on strips whose k are large enough for a search to pass words that cannot hold the stroke.
+#[test]
+fn every_find() {
+    let mut cases = Cases::new("pairs", "every_find", 413);
+    for density in [20, 500, 980, 1000].map(|differing| (500, Beside::Differing(differing))) {
+        cases.run(|random| {
+            let [mut first, mut second] = drawn(random, 4096, 4095, density, (500, 500));
+            for k in 0..=4097 {
+                compare_both_ways(Find(k), &mut first, &mut second);
+            }
+        });
+    }
+}
+
 /// The longest strips, half of them ones at random; then the same words under a length that ends inside a word.
 #[test]
 fn largest_strips() {

@@ -458,6 +458,20 @@ fn every_position() {
     }
 }
 
+/// Every k on strips whose k are large enough for a search to pass words that cannot hold the misfire.
+#[test]
+fn every_find() {
+    let mut cases = Cases::new("waiting", "every_find", 613);
+    for density in DENSITIES {
+        cases.run(|random| {
+            let [mut strip, mut waiting] = drawn(random, 4096, 4095, density, (500, 500));
+            for k in 0..=4097 {
+                let _ = compare(Find(k), &mut strip, &mut waiting);
+            }
+        });
+    }
+}
+
 /// The longest strips, half of them ones and a quarter waiting at random; then the same words under a length that ends inside
 /// a word.
 #[test]
