@@ -230,8 +230,8 @@ static inline struct strip_difference strip_record_pair_span(const struct strip_
 }
 
 /* ---- A strip of which some strokes wait, and the waiting strip, which marks them. Of both records the handle and the
- * words are read, and no counters. The waiting strip is kept as any other: each stroke is pushed to it, as 1 where it
- * waits, and flipped when its pressure has come. */
+ * words are read, and no counters. The waiting strip is kept as any other: for each stroke a bit is pushed to it, 1
+ * where the stroke waits, and this 1 is flipped when its pressure has come. */
 
 /* The arguments that these calls start with; undefined again below. */
 #define STRIP_RECORD_WAITING                                                      \

@@ -53,7 +53,7 @@ extern "C" {
  * stand in #if; STRIP_COUNTERS evaluates it more than once. They judge nothing: of a capacity that is not allowed, or
  * a length above 134,217,728, they mean nothing. */
 
-/* The numbers that a change writes to `out`; and those of strip_waiting_count and of strip_waiting_find. */
+/* How many numbers a change writes to `out`; and so of strip_waiting_count and of strip_waiting_find. */
 #define STRIP_OUT 5
 #define STRIP_WAITING_COUNT_OUT 3
 #define STRIP_WAITING_FIND_OUT 4
@@ -302,7 +302,7 @@ int64_t strip_pair_span(uint64_t first_capacity, uint64_t first_length, const ui
  * The calls answer for all outcomes together. Of each strip they take the handle and the words, and no counters:
  * capacity, length, words and words_len of the strip; waiting_capacity, waiting_length, waiting and waiting_len of the
  * waiting strip. They change no word, ignore the bits and marks at and past the length, and answer alike whether
- * records fit or not. They write three numbers to `out`, the find four, and none past these:
+ * records fit or not. The count writes three numbers to `out`, the find four, and neither any past these:
  *   out[0]        the number of the refusal, or 0
  *   the others    the values, all 0 where refused
  * With out_len below that, NULL and 0 among these, a call does nothing at all: not even `out` changes. Both have these
