@@ -272,7 +272,7 @@ def alone_table(of):
     granted = {(row[0], row[2]): int(row[3]) for row in of.kind("bytes")}
     for power in POWERS:
         for call in ("count", "find 1", "turn"):
-            for note in ("", ", alone", ", alone, waiting", ", alone, 2 MiB pages"):
+            for note in ("", ", alone", ", alone, dependent", ", alone, 2 MiB pages"):
                 key = power, "32/64", call + note
                 times = [duration(of.time(*key, column)) for column in COLUMNS[:2]]
                 ratios = [spread(of, key, pair) for pair in (PAIR, NOISE)]

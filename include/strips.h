@@ -310,7 +310,8 @@ int64_t strip_pair_span(uint64_t first_capacity, uint64_t first_length, const ui
  *   1, 2   of the strip, judged on its own handle and its own words
  *   1, 2   of the waiting strip, on its own
  *   16     capacity is not waiting_capacity, or length is not waiting_length
- * Below, "length" is that of both. */
+ * One of the two that is a stroke ahead may be read under the other's length, since what is past it is ignored. Below,
+ * "length" is that of both. */
 
 /* waiting count(i). How many of the first i strokes are misfires; the stroke at position i is not counted.
  * Values, 0 to i:

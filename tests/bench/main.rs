@@ -141,7 +141,7 @@ struct Pace {
 
 /// Count, find and turn with nothing else between them: plainly; each call waiting; in pages of 2 MiB.
 const KINDS: [(&str, bool, bool); 3] =
-    [(", alone", false, false), (", alone, waiting", false, true), (", alone, 2 MiB pages", true, false)];
+    [(", alone", false, false), (", alone, dependent", false, true), (", alone, 2 MiB pages", true, false)];
 
 /// Nanoseconds for one call, a figure for each part of the queries.
 fn time(queries: &[usize], pace: Pace, mut call: impl FnMut(usize) -> usize) -> Vec<f64> {
