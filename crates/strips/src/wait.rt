@@ -5,7 +5,7 @@ ghost use mathlib.Core.List.{[], _∷_};
 ghost use Prim.Native.Nat.{_≤_};
 ghost use lib.ListN.{length};
 ghost use Rattle.words.specs.Handles.{handle};
-ghost use Rattle.waiting.specs.Calls.{rankTold, selectTold, WaitingRank, WaitingSelect};
+ghost use Rattle.waiting.specs.Calls.{rankToldOf, selectToldOf, WaitingRank, WaitingSelect};
 ghost use Rattle.strips.specs.Exports.{numbersOver, rankNumbers, selectNumbers, Written};
 use waiting::RankAnswer;
 use waiting::SelectAnswer;
@@ -38,7 +38,7 @@ fn write_four(out: &mut [u64], a: u64, b: u64, c: u64, d: u64)
 // Writes what a waiting count answers.
 fn write_rank(out: &mut [u64], m: RankAnswer)
     requires { ⌜ 3 ≤ length (now out) ⌝ }
-    ensures { λ _. ⌜ now (out .exit) ≡ numbersOver 3 (rankNumbers (rankTold m)) (now (out .entry)) ⌝ }
+    ensures { λ _. ⌜ now (out .exit) ≡ numbersOver 3 (rankNumbers (rankToldOf m)) (now (out .entry)) ⌝ }
 {
     match m {
         RankAnswer::LeastMost(least, most) => write_three(out, 0, least, most),
@@ -49,7 +49,7 @@ fn write_rank(out: &mut [u64], m: RankAnswer)
 // Writes what a waiting find answers.
 fn write_select(out: &mut [u64], m: SelectAnswer)
     requires { ⌜ 4 ≤ length (now out) ⌝ }
-    ensures { λ _. ⌜ now (out .exit) ≡ numbersOver 4 (selectNumbers (selectTold m)) (now (out .entry)) ⌝ }
+    ensures { λ _. ⌜ now (out .exit) ≡ numbersOver 4 (selectNumbers (selectToldOf m)) (now (out .entry)) ⌝ }
 {
     match m {
         SelectAnswer::FromTo(earliest, latest) => write_four(out, 0, earliest, 1, latest),

@@ -25,14 +25,14 @@ pub data SelectTold : Type 0 where
   unselected : ℕ → SelectTold
 
 -- the answers by their values or number
-abbrev pub rankTold : RankAnswer → RankTold
-rankTold (rankAnswer.LeastMost a b) = leastMost a b
-rankTold (rankAnswer.Refused r) = unranked (numberOf r)
+abbrev pub rankToldOf : RankAnswer → RankTold
+rankToldOf (rankAnswer.LeastMost a b) = leastMost a b
+rankToldOf (rankAnswer.Refused r) = unranked (numberOf r)
 
-abbrev pub selectTold : SelectAnswer → SelectTold
-selectTold (selectAnswer.FromTo a b) = fromTo a b
-selectTold (selectAnswer.FromOn a) = fromOn a
-selectTold (selectAnswer.Refused r) = unselected (numberOf r)
+abbrev pub selectToldOf : SelectAnswer → SelectTold
+selectToldOf (selectAnswer.FromTo a b) = fromTo a b
+selectToldOf (selectAnswer.FromOn a) = fromOn a
+selectToldOf (selectAnswer.Refused r) = unselected (numberOf r)
 
 -- an answer to a count that no check refuses: the least and the most over all outcomes
 abbrev pub RightRank : List ℕ → List ℕ → ℕ → RankTold → Type 0

@@ -1,5 +1,5 @@
 // The waiting calls, on the words of a strip and of its waiting strip. They ignore the bits and marks past the length and write nothing.
-ghost use Rattle.waiting.specs.Calls.{rankTold, selectTold, WaitingRank, WaitingSelect};
+ghost use Rattle.waiting.specs.Calls.{rankToldOf, selectToldOf, WaitingRank, WaitingSelect};
 use super::scan::waiting_ones;
 use super::scan::waiting_places;
 use pairs::check_pair;
@@ -26,7 +26,7 @@ pub enum SelectAnswer {
 
 // waiting count(i): the least and the most misfires before i over all outcomes.
 pub fn waiting_rank(strip: Handle, xs: &[u64], waiting: Handle, ys: &[u64], i: usize) -> RankAnswer
-    ensures { λ r. ⌜ WaitingRank strip (now (xs .entry)) waiting (now (ys .entry)) i (rankTold r) ⌝ }
+    ensures { λ r. ⌜ WaitingRank strip (now (xs .entry)) waiting (now (ys .entry)) i (rankToldOf r) ⌝ }
 {
     match check_pair_within(strip, xs.len(), waiting, ys.len(), i) {
         Verdict::Refuse(r) => RankAnswer::Refused(r),
@@ -45,7 +45,7 @@ pub fn waiting_select(
     ys: &[u64],
     k: usize,
 ) -> SelectAnswer
-    ensures { λ r. ⌜ WaitingSelect strip (now (xs .entry)) waiting (now (ys .entry)) k (selectTold r) ⌝ }
+    ensures { λ r. ⌜ WaitingSelect strip (now (xs .entry)) waiting (now (ys .entry)) k (selectToldOf r) ⌝ }
 {
     match check_pair(strip, xs.len(), waiting, ys.len()) {
         Verdict::Refuse(r) => SelectAnswer::Refused(r),

@@ -3,7 +3,7 @@ use native.Mathlib.Omega.{arith}
 use borrow.Author.Needs.{needs}
 use Rattle.words.specs.declared.handle.Handle.{Handle}
 use Rattle.words.specs.Handles.{handle}
-use Rattle.waiting.specs.Calls.{rankTold, WaitingRank}
+use Rattle.waiting.specs.Calls.{rankToldOf, WaitingRank}
 use Rattle.strips.specs.Exports.{rankNumbers}
 use Rattle.strips.proofs.ExportLaws.{written-idle, written-ran}
 use Rattle.strips.proofs.wait.strip_waiting_count.Statement.{statement}
@@ -35,7 +35,7 @@ returns-2 c =
     let d = c .before .before .before .before .waiting-rank in
     let w = c .before .before .write-rank in
     written-ran 3 rankNumbers (λ (h g : Handle). WaitingRank h (a .words .now) g (a .words2 .now) (a .i)) (c .before .before .before .before .before .before .new .result) (handle (a .capacity) (a .length))
-    (c .before .before .before .before .before .new2 .result) (handle (a .capacity2) (a .length2)) (a .out .now) (w .last .0) (rankTold (d .result)) (c .before .before .before .before .before .before .new .ensures) (c .before .before .before .before .before .new2 .ensures)
+    (c .before .before .before .before .before .new2 .result) (handle (a .capacity2) (a .length2)) (a .out .now) (w .last .0) (rankToldOf (d .result)) (c .before .before .before .before .before .before .new .ensures) (c .before .before .before .before .before .new2 .ensures)
     (omega (arith, c .before .before .before .before .before .before .before .if1 .left)) (d .ensures) (w .ensures)
 
 pub strip-waiting-count-spec : {M : Type 1} → statement M

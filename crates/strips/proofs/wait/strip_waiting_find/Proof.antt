@@ -3,7 +3,7 @@ use native.Mathlib.Omega.{arith}
 use borrow.Author.Needs.{needs}
 use Rattle.words.specs.declared.handle.Handle.{Handle}
 use Rattle.words.specs.Handles.{handle}
-use Rattle.waiting.specs.Calls.{selectTold, WaitingSelect}
+use Rattle.waiting.specs.Calls.{selectToldOf, WaitingSelect}
 use Rattle.strips.specs.Exports.{selectNumbers}
 use Rattle.strips.proofs.ExportLaws.{written-idle, written-ran}
 use Rattle.strips.proofs.wait.strip_waiting_find.Statement.{statement}
@@ -35,7 +35,7 @@ returns-2 c =
     let d = c .before .before .before .before .waiting-select in
     let w = c .before .before .write-select in
     written-ran 4 selectNumbers (λ (h g : Handle). WaitingSelect h (a .words .now) g (a .words2 .now) (a .k)) (c .before .before .before .before .before .before .new .result) (handle (a .capacity) (a .length))
-    (c .before .before .before .before .before .new2 .result) (handle (a .capacity2) (a .length2)) (a .out .now) (w .last .0) (selectTold (d .result)) (c .before .before .before .before .before .before .new .ensures) (c .before .before .before .before .before .new2 .ensures)
+    (c .before .before .before .before .before .new2 .result) (handle (a .capacity2) (a .length2)) (a .out .now) (w .last .0) (selectToldOf (d .result)) (c .before .before .before .before .before .before .new .ensures) (c .before .before .before .before .before .new2 .ensures)
     (omega (arith, c .before .before .before .before .before .before .before .if1 .left)) (d .ensures) (w .ensures)
 
 pub strip-waiting-find-spec : {M : Type 1} → statement M

@@ -4,7 +4,7 @@ use mathlib.Core.List.{[], _∷_}
 use Prim.Native.Nat.{ℕ}
 use borrow.Author.Needs.{needs}
 use Rattle.waiting.specs.declared.waiting.RankAnswer.{RankAnswer}
-use Rattle.waiting.specs.Calls.{rankTold}
+use Rattle.waiting.specs.Calls.{rankToldOf}
 use Rattle.strips.specs.Exports.{numbersOver, rankNumbers}
 use Rattle.strips.proofs.wait.write_rank.Statement.{statement}
 use Rattle.strips.proofs.wait.write_rank.Tie as tie
@@ -31,7 +31,7 @@ returns : tie.Need-returns
 returns c =
     let a = c .before .before .before .before .before .before .before .before .args in
     c .before .before .write-three .ensures
-    ∙ sym (ap (λ (m : RankAnswer). numbersOver 3 (rankNumbers (rankTold m)) (a .out .now)) (c .before .before .before .before .before .m .given .1))
+    ∙ sym (ap (λ (m : RankAnswer). numbersOver 3 (rankNumbers (rankToldOf m)) (a .out .now)) (c .before .before .before .before .before .m .given .1))
 
 same-length-2 : tie.Need-same-length-2
 same-length-2 c = search needs
@@ -41,7 +41,7 @@ returns-2 c =
     let a = c .before .before .before .before .before .before .before .before .before .args in
     c .before .before .write-three2 .ensures
     ∙ ap (λ (n : ℕ). numbersOver 3 (n ∷ 0 ∷ 0 ∷ []) (a .out .now)) (c .before .before .before .number .ensures .0)
-    ∙ sym (ap (λ (m : RankAnswer). numbersOver 3 (rankNumbers (rankTold m)) (a .out .now)) (c .before .before .before .before .before .before .m2 .given .1))
+    ∙ sym (ap (λ (m : RankAnswer). numbersOver 3 (rankNumbers (rankToldOf m)) (a .out .now)) (c .before .before .before .before .before .before .m2 .given .1))
 
 pub write-rank-spec : {M : Type 1} → statement M
 write-rank-spec =

@@ -4,7 +4,7 @@ use mathlib.Core.List.{[], _∷_}
 use Prim.Native.Nat.{ℕ}
 use borrow.Author.Needs.{needs}
 use Rattle.waiting.specs.declared.waiting.SelectAnswer.{SelectAnswer}
-use Rattle.waiting.specs.Calls.{selectTold}
+use Rattle.waiting.specs.Calls.{selectToldOf}
 use Rattle.strips.specs.Exports.{numbersOver, selectNumbers}
 use Rattle.strips.proofs.wait.write_select.Statement.{statement}
 use Rattle.strips.proofs.wait.write_select.Tie as tie
@@ -37,7 +37,7 @@ returns : tie.Need-returns
 returns c =
     let a = c .before .before .before .before .before .before .before .before .args in
     c .before .before .write-four .ensures
-    ∙ sym (ap (λ (m : SelectAnswer). numbersOver 4 (selectNumbers (selectTold m)) (a .out .now)) (c .before .before .before .before .before .m .given .1))
+    ∙ sym (ap (λ (m : SelectAnswer). numbersOver 4 (selectNumbers (selectToldOf m)) (a .out .now)) (c .before .before .before .before .before .m .given .1))
 
 same-length-2 : tie.Need-same-length-2
 same-length-2 c = search needs
@@ -46,7 +46,7 @@ returns-2 : tie.Need-returns-2
 returns-2 c =
     let a = c .before .before .before .before .before .before .before .before .args in
     c .before .before .write-four2 .ensures
-    ∙ sym (ap (λ (m : SelectAnswer). numbersOver 4 (selectNumbers (selectTold m)) (a .out .now)) (c .before .before .before .before .before .m2 .given .1))
+    ∙ sym (ap (λ (m : SelectAnswer). numbersOver 4 (selectNumbers (selectToldOf m)) (a .out .now)) (c .before .before .before .before .before .m2 .given .1))
 
 same-length-3 : tie.Need-same-length-3
 same-length-3 c = search needs
@@ -56,7 +56,7 @@ returns-3 c =
     let a = c .before .before .before .before .before .before .before .before .before .args in
     c .before .before .write-four3 .ensures
     ∙ ap (λ (n : ℕ). numbersOver 4 (n ∷ 0 ∷ 0 ∷ 0 ∷ []) (a .out .now)) (c .before .before .before .number .ensures .0)
-    ∙ sym (ap (λ (m : SelectAnswer). numbersOver 4 (selectNumbers (selectTold m)) (a .out .now)) (c .before .before .before .before .before .before .m3 .given .1))
+    ∙ sym (ap (λ (m : SelectAnswer). numbersOver 4 (selectNumbers (selectToldOf m)) (a .out .now)) (c .before .before .before .before .before .before .m3 .given .1))
 
 pub write-select-spec : {M : Type 1} → statement M
 write-select-spec =
