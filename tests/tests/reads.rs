@@ -106,6 +106,24 @@ fn find_reads() {
     });
 }
 
+/// So does one whose k is so large that it passes words which cannot hold the answer: half of the strokes are judged
+/// differently.
+#[test]
+fn find_past_words_reads() {
+    Cases::new("reads", "find_past_words_reads", 508).run(|random| {
+        let [first, second] = any_strips(random);
+        let [xs, ys] = [&first, &second].map(|strip| model::bits_of(&strip.words));
+        let differing: Vec<u64> = (0..LENGTH).filter(|p| xs[*p as usize] != ys[*p as usize]).collect();
+        for p in positions() {
+            for k in beside(differing.partition_point(|q| *q < p) as u64) {
+                if let Some(&answer) = differing.get(k as usize) {
+                    expect(Find(k), [&first, &second], 0..words_below(answer + 1), Ok(answer as i64));
+                }
+            }
+        }
+    });
+}
+
 /// A find of what is not there reads up to the last word that the length reaches; with k not below the length, nothing.
 #[test]
 fn find_of_none_reads() {
@@ -186,6 +204,25 @@ fn waiting_find_reads() {
             }
         });
     }
+}
+
+/// The same where k is so large that words which cannot hold the earliest or the latest are passed: half of the strokes wait.
+#[test]
+fn waiting_find_past_words_reads() {
+    Cases::new("reads", "waiting_find_past_words_reads", 509).run(|random| {
+        let [strip, waiting] = any_strips(random);
+        let [xs, ys] = [&strip, &waiting].map(|strip| model::bits_of(&strip.words));
+        let sure: Vec<u64> = (0..LENGTH).filter(|p| xs[*p as usize] && !ys[*p as usize]).collect();
+        let border = sure.len() as u64;
+        let near = positions().into_iter().map(|p| sure.partition_point(|q| *q < p) as u64);
+        for k in near.chain([border, 2 * border]).flat_map(beside).filter(|k| *k < LENGTH / 2) {
+            let wanted = Waiting::Find(k).owed((strip.handle, &xs), (waiting.handle, &ys));
+            let latest = wanted.unwrap().high;
+            assert_eq!(latest.is_some(), k < border);
+            let end = words_below(latest.map_or(LENGTH, |latest| latest + 1));
+            expect_waiting(Waiting::Find(k), [&strip, &waiting], 0..end, wanted);
+        }
+    });
 }
 
 /// A waiting find of what no outcome has reads up to the last word that the length reaches; with k not below the length,
