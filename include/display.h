@@ -47,7 +47,7 @@ extern "C" {
 /* Why a call is refused. A length is that of the strip or of the row. */
 enum strip_refusal {
     STRIP_BAD_HANDLE = 1,     /* capacity not a multiple of 512 from 512 to 134,217,728, or length above capacity */
-    STRIP_BAD_WORDS = 2,      /* words_len, of two strips also first_len, second_len, waiting_len, not capacity / 64 */
+    STRIP_BAD_WORDS = 2,      /* words_len (of two strips first_len, second_len, waiting_len) not capacity / 64 */
     STRIP_BAD_COUNTERS = 3,   /* counters_len not the number that the capacity needs */
     STRIP_POSITION = 4,       /* a position above the length; for a get or a flip also at the length.
                                  image_record_size: a length above 134,217,728 */

@@ -139,7 +139,7 @@ struct Pace {
     waits: bool,
 }
 
-/// Count, find and turn with nothing else between them: plainly; each call waiting; in pages of 2 MiB.
+/// Count, find and turn with nothing else between them: plainly; each call dependent on the one before; in pages of 2 MiB.
 const KINDS: [(&str, bool, bool); 3] =
     [(", alone", false, false), (", alone, dependent", false, true), (", alone, 2 MiB pages", true, false)];
 

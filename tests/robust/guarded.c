@@ -520,7 +520,7 @@ static struct record drawn_second(const struct record *first)
     return second;
 }
 
-/* The six calls, with drawn arguments and handles. */
+/* The six calls that compare, with drawn arguments and handles. */
 static void compare_strips(struct record x, struct record y)
 {
     static const enum call counts[] = {PAIR_BOTH, PAIR_EITHER, PAIR_ONLY_FIRST, PAIR_DIFFER};

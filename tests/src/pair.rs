@@ -1,4 +1,4 @@
-//! The six calls on two strips, asked of the library and of the model.
+//! The six calls that compare two strips, asked of the library and of the model.
 use crate::ffi::{
     strip_pair_both, strip_pair_differ, strip_pair_either, strip_pair_find, strip_pair_only_first, strip_pair_span,
 };
@@ -7,7 +7,7 @@ use crate::{model, Handle, Lent};
 use Comparison::*;
 use Refusal::{BadHandle, NotFound, Position, Unequal, WordCount};
 
-/// A call on two strips with its arguments.
+/// A call that compares two strips, with its arguments.
 #[derive(Clone, Copy, Debug)]
 pub enum Comparison {
     /// how many strokes before i both mark

@@ -1,4 +1,4 @@
-//! The six calls on two strips, against the plain model and against answers worked out by hand.
+//! The six calls that compare two strips, against the plain model and against answers worked out by hand.
 use std::ptr::null;
 use strip_tests::borders::{beside, lengths, BAD_CAPACITIES, FAR, LARGEST, ONE_LEVEL, TWO_LEVELS, WIDE};
 use strip_tests::cases::{at_call, Cases};

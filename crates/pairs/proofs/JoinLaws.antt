@@ -62,7 +62,7 @@ module _ (r : ℕ → ℕ → ℕ) where
         let e : 64 * j + 64 ≡ 64 * (j + 1) = omega arith in
         joined-word-ones 64 (le-refl 64) ∙ ap (rankOf (joinedBit r ws vs) 1) e
 
-    -- those of the word that position i lies in: the ones before i
+    -- those below position i in the word that i lies in: the ones before i
     pub joined-last : (i : ℕ) → j ≡ i / 64 → rankOf (joinedBit r ws vs) 1 (64 * j) + ones (bit z) (i % 64) ≡ rankOf (joinedBit r ws vs) 1 i
     joined-last i l =
         let e : 64 * j + i % 64 ≡ i = omega arith in

@@ -1,4 +1,4 @@
--- The calls on two strips: their refusals in order, and their answers. Assumes nothing.
+-- The calls that compare two strips: their refusals in order, and their answers. Assumes nothing.
 use Prim.Native.Nat.{ℕ, _+_, _-_, _^_}
 use mathlib.Core.Bool.{not, _&&_}
 use mathlib.Core.List.{List, [], _∷_, _++_}

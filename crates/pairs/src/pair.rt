@@ -1,4 +1,4 @@
-// The calls on two strips, each on its words alone. They ignore the bits past the length and write nothing.
+// The calls that compare two strips, each on its words alone. They ignore the bits past the length and write nothing.
 ghost use mathlib.Core.Path.{_≡_};
 ghost use Rattle.words.specs.Refusals.{judge, verdictOf, toldOf};
 ghost use Rattle.pairs.specs.Rules.{ruleOf};

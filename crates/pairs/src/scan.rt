@@ -70,7 +70,7 @@ fn joined_passed(rule: Rule, xs: &[u64], ys: &[u64], from: usize, to: usize, k: 
     let mut left = k;
     let mut word = from;
     while word < to {
-        // less than eight words: they are taken one by one
+        // fewer than eight words to pass: from here on word by word
         if left < 512 {
             return Search { word, left };
         }

@@ -1,4 +1,4 @@
-// What libstrips.a exports: the seventeen calls, those on two strips and the waiting calls for C, one function each, and the queries of sizes and rows.
+// What libstrips.a exports: the seventeen calls, those that compare two strips and the waiting calls for C, one function each, and the queries of sizes and rows.
 mod images;
 mod pair;
 mod record;

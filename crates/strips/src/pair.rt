@@ -1,4 +1,4 @@
-// The calls on two strips, each on its words alone: the first strip's capacity, length and words, then the second's. A refusal comes as 2^32 plus its number.
+// The calls that compare two strips, each on its words alone: the first strip's capacity, length and words, then the second's. A refusal comes as 2^32 plus its number.
 ghost use mathlib.Core.Path.{_≡_};
 ghost use Rattle.words.specs.Refusals.{coded as codedOf};
 ghost use Rattle.words.specs.Handles.{handle};

@@ -24,7 +24,7 @@ fn write_three(out: &mut [u64], a: u64, b: u64, c: u64)
     out[2] = c;
 }
 
-// Writes four.
+// Writes four numbers.
 fn write_four(out: &mut [u64], a: u64, b: u64, c: u64, d: u64)
     requires { ⌜ 4 ≤ length (now out) ⌝ }
     ensures { λ _. ⌜ now (out .exit) ≡ numbersOver 4 (a ∷ b ∷ c ∷ d ∷ []) (now (out .entry)) ⌝ }

@@ -48,7 +48,7 @@ module _ (s t : List ℕ) where
     some-all : {A : Type 0} (a : ℕ) → Earliest s t k a → AllLack s t k → A
     some-all a x h = not-both (x .reached .has) (h (x .reached .outcome) (x .reached .is))
 
-    -- where none lacks it, not some does
+    -- where no outcome lacks it, there is none that does
     none-some : {A : Type 0} → NoneLacks s t k → SomeLacks s t k → A
     none-some h x = absurd (h (x .outcome) (x .is) (x .has))
 

@@ -90,6 +90,13 @@ module _ (s t : List ℕ) (sBits : (p : ℕ) → cell s p ≤ 1) (tBits : (p : �
     counted : (o : List ℕ) → Outcome s t o → rank o 1 i ≡ rankOf (cell o) 1 i
     counted o u = let e : min i (length o) ≡ i = omega (arith, u .long) in ap (rankOf (cell o) 1) e
 
+    -- of cells that are bits it is their ones
+    must-ones : rankOf must 1 i ≡ ones must i
+    must-ones = rank-ones must i (λ p. omega (arith, at p .range, at p .most))
+
+    may-ones : rankOf may 1 i ≡ ones may i
+    may-ones = rank-ones may i (λ p. at p .most)
+
     -- marks before position m become ones, those from m on do not
     abbrev mixed : ℕ → ℕ → ℕ
     mixed m p = cond (ltb p m) (may p) (must p)
@@ -144,23 +151,19 @@ module _ (s t : List ℕ) (sBits : (p : ℕ) → cell s p ≤ 1) (tBits : (p : �
 
     pub most-marks : rank (joined either s t) 1 i ≡ rank (joined onlyFirst s t) 1 i + rankOf (cell t) 1 i
     most-marks =
-        let low : rankOf must 1 i ≡ ones must i = rank-ones must i (λ p. omega (arith, at p .range, at p .most)) in
-        let high : rankOf may 1 i ≡ ones may i = rank-ones may i (λ p. at p .most) in
-        omega (arith, listed-rank must (length s) 1 i h, listed-rank may (length s) 1 i h, low, high, rank-ones (cell t) i tBits, sum-marks i)
+        omega (arith, listed-rank must (length s) 1 i h, listed-rank may (length s) 1 i h, must-ones, may-ones, rank-ones (cell t) i tBits, sum-marks i)
 
     -- the least and the most
     pub rank-range : RankRange s t i (rank (joined onlyFirst s t) 1 i) (rank (joined either s t) 1 i)
     rank-range =
         let least : rank (joined onlyFirst s t) 1 i ≡ rankOf must 1 i = listed-rank must (length s) 1 i h in
         let most : rank (joined either s t) 1 i ≡ rankOf may 1 i = listed-rank may (length s) 1 i h in
-        let low : rankOf must 1 i ≡ ones must i = rank-ones must i (λ p. omega (arith, at p .range, at p .most)) in
-        let high : rankOf may 1 i ≡ ones may i = rank-ones may i (λ p. at p .most) in
         record {
           noFewer = (λ o u. omega (arith, least, counted o u, rank-under must (cell o) (length s) i (over-must o u) h));
           noMore = (λ o u. omega (arith, most, counted o u, rank-under (cell o) may (length s) i (under-may o u) h));
           leastReached = record { outcome = joined onlyFirst s t; is = must-outcome; has = refl };
           mostReached = record { outcome = joined either s t; is = may-outcome; has = refl };
-          between = (λ n a b. between n i (le-refl i) (omega (arith, least, low)) (omega (arith, most, high)));
+          between = (λ n a b. between n i (le-refl i) (omega (arith, least, must-ones)) (omega (arith, most, may-ones)));
         }
 
   -- ---- finding the k-th

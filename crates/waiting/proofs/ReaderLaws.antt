@@ -60,7 +60,7 @@ module _ (s t : List ℕ) where
     pub kind-none : b ≤ k → AllLack s t k
     kind-none l o u = select-none (cell o) (length o) 1 k (omega (arith, r .noMore o u, whole o u))
 
--- ---- the pressure of some strokes comes: the marks u of a strip r, some of which go, leave the marks t of a strip s, as long, that has r's bits where r has no mark
+-- ---- the pressure of some strokes comes: strip r with marks u becomes strip s with marks t, as long; where u has no mark, t has none and s has r's bit
 module _ (s r t u : List ℕ) (long : length s ≡ length r)
     (come : (p : ℕ) → p < length s → cell u p ≡ 0 → (cell t p ≡ 0) × (cell s p ≡ cell r p)) where
   -- no outcome is new

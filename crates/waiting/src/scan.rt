@@ -80,7 +80,7 @@ fn waiting_passed(xs: &[u64], ys: &[u64], to: usize, k: usize) -> Search
     let mut must = k;
     let mut word: usize = 0;
     while word < to {
-        // less than eight words: they are taken one by one
+        // fewer than eight words to pass: from here on word by word
         if may < 512 {
             return Search { word, may, must };
         }

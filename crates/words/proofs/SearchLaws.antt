@@ -256,7 +256,7 @@ place-in f g a w n v k under e part top eu l h =
 pub rank-le : (f : ℕ → ℕ) (v n : ℕ) → rankOf f v n ≤ n
 rank-le f v n = ones-le (holds f v) n (holds-le f v)
 
--- nor from a on
+-- nor from position a to b
 pub rank-from : (f : ℕ → ℕ) (v a b : ℕ) → a ≤ b → rankOf f v b ≤ rankOf f v a + (b - a)
 rank-from f v a b h =
     let e : a + (b - a) ≡ b = add-sub-of-le h in
