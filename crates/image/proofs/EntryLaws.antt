@@ -38,12 +38,6 @@ pub counts-ext : (f g : ℕ → ℕ) (c : List ℕ) → BlockCounts f c → ((p 
 counts-ext f g c h e =
     record { long = h .long; ends = λ j l. h .ends j l ∙ sum-ext f g (512 * (j + 1)) (λ p q. e p (omega arith)) }
 
--- and so is the entry
-pub entry-ext : (f g : ℕ → ℕ) (sum : ℕ) → ((p : ℕ) → p < 4096 → f p ≡ g p) → superblockEntry f sum ≡ superblockEntry g sum
-entry-ext f g sum e =
-    ap (λ (d : ℕ). sum + 2 ^ 44 * d)
-    (digits-ext (2 ^ 12) (λ j. ones f (512 * (j + 1))) (λ j. ones g (512 * (j + 1))) 7 (λ j l. sum-ext f g (512 * (j + 1)) (λ p q. e p (omega arith))))
-
 -- that of superblock e, with the row's ones before it, is entry e
 pub entry-placed : (f : ℕ → ℕ) (e sum : ℕ) → sum ≡ ones f (4096 * e) → superblockEntry (λ p. f (4096 * e + p)) sum ≡ entryOf f e
 unfolding entryOf

@@ -157,12 +157,6 @@ pub sets-small : (xs s : List ℕ) (a : ℕ) → ((i : ℕ) → getD s i 0 < 256
 sets-small [] s a hs hx i = hs i
 sets-small (x ∷ xs) s a hs hx i = sets-small xs (set s a x) (suc a) (set-small s a x hs (hx 0)) (λ j. hx (suc j)) i
 
--- the whole list is stored over
-pub sets-all : (vs s : List ℕ) → length s ≡ length vs → sets s 0 vs ≡ vs
-sets-all vs s e =
-    let z : drop (0 + length vs) s ≡ [] = drop-of-length-le s {i = 0 + length vs} (omega arith) in
-    sets-eq vs s 0 (omega arith) ∙ ap (λ (r : List ℕ). vs ++ r) z ∙ append-nil vs
-
 -- the first bytes are stored over
 pub sets-front : (vs s : List ℕ) → length vs ≤ length s → sets s 0 vs ≡ vs ++ drop (length vs) s
 sets-front vs s h =

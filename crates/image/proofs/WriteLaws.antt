@@ -24,8 +24,8 @@ use Rattle.image.specs.Bytes.{num, le, bitFrom}
 use Rattle.image.specs.Layout.{mostRow, superblocksOf, bitsStart, sizeOf, superblockEntry, entryOf, entriesFrom, bytesOf, recordOf, kind}
 use Rattle.image.specs.Rows.{rowBits, Right}
 use Rattle.image.specs.Chain.{headerOf}
-use Rattle.image.specs.Writing.{BlockCounts, entryFrom, HalvesOf, wordBits, BitsPut, CountedPut, SuperblockPut, RowPut}
-use Rattle.image.proofs.EntryLaws.{block-ones-lt, entry-made, entry-ext, entry-placed, Counting, counting-none, counting-more, counting-done}
+use Rattle.image.specs.Writing.{BlockCounts, entryFrom, HalvesOf, wordCells, BitsPut, CountedPut, SuperblockPut, RowPut}
+use Rattle.image.proofs.EntryLaws.{block-ones-lt, entry-made, entry-placed, Counting, counting-none, counting-more, counting-done}
 use Rattle.image.proofs.PutLaws.{length-le, le-small, num-of, sets-join, sets-comm, sets-front, put-join}
 
 -- ---- lists by their elements
@@ -444,17 +444,36 @@ module _ (g : ℕ → ℕ) (at : ℕ) (s : List ℕ) where
   pub bits-size : (t : List ℕ) (m n r : ℕ) → BitsPut g m at s t r → m ≡ n → BitsPut g n at s t r
   bits-size t m n r x e = subst (λ (k : ℕ). BitsPut g k at s t r) e x
 
--- one word more of a block
-pub block-word : (block : List ℕ) (at : ℕ) (s t u : List ℕ) (j r q : ℕ) → BitsPut (bitAt block) (8 * j) at s t r
-    → u ≡ sets t (at + 8 * j) (le 8 (getD block j 0)) → q ≡ ones (bit (getD block j 0)) 64 → BitsPut (bitAt block) (8 * (j + 1)) at s u (r + q)
-block-word block at s t u j r q w e c =
-    bits-more (bitAt block) at s t u (8 * j) 8 (8 * (j + 1)) r q w
-    (bits-word (λ p. bitAt block (8 * (8 * j) + p)) (at + 8 * j) t u (getD block j 0) q e
-    (λ p l. sym (ap (bitAt block) (place p) ∙ word-bit block j p l)) c)
-    (omega arith)
-  where
-    place : (p : ℕ) → 8 * (8 * j) + p ≡ 64 * j + p
-    place p = omega arith
+-- a block before the length
+pub block-whole : (ws : List ℕ) (n w at : ℕ) (s t block : List ℕ) (r : ℕ) → 64 * w + 512 ≤ n
+    → ((j : ℕ) → j < 8 → getD block j 0 ≡ getD ws (w + j) 0) → BitsPut (bitAt block) 64 at s t r → BitsPut (wordCells (stripOf ws n) w) 64 at s t r
+block-whole ws n w at s t block r h words x =
+    bits-ext (wordCells (stripOf ws n) w) at s (bitAt block) t 64 r x
+    (λ p l. words-bits (wordCells (stripOf ws n) w) block 8 p
+    (λ j k q m.
+    let e : 64 * (w + j) + q ≡ 64 * w + (64 * j + q) = omega arith in
+    ap (λ (v : ℕ). bit v q) (words j k) ∙ word-all ws n (w + j) q (omega arith) m ∙ ap (cell (stripOf ws n)) e)
+    (omega arith))
+
+-- a block past it
+pub block-past : (ws : List ℕ) (n w at : ℕ) (s t : List ℕ) → n ≤ 64 * w → BitsPut (λ p. 0) 64 at s t 0 → BitsPut (wordCells (stripOf ws n) w) 64 at s t 0
+block-past ws n w at s t h x =
+    bits-ext (wordCells (stripOf ws n) w) at s (λ p. 0) t 64 0 x (λ p l. sym (listOf-past (bitAt ws) n (64 * w + p) (omega arith)))
+
+-- one word more
+pub block-word : (g : ℕ → ℕ) (at : ℕ) (s t u : List ℕ) (j x r q : ℕ) → BitsPut g (8 * j) at s t r → u ≡ sets t (at + 8 * j) (le 8 x)
+    → ((p : ℕ) → p < 64 → bit x p ≡ g (64 * j + p)) → q ≡ ones (bit x) 64 → BitsPut g (8 * (j + 1)) at s u (r + q)
+block-word g at s t u j x r q w e same c =
+    let place : (p : ℕ) → 64 * j + p ≡ 8 * (8 * j) + p = λ p. omega arith in
+    bits-more g at s t u (8 * j) 8 (8 * (j + 1)) r q w
+    (bits-word (λ p. g (8 * (8 * j) + p)) (at + 8 * j) t u x q e (λ p l. same p l ∙ ap g (place p)) c) (omega arith)
+
+-- a word of zeros more
+pub block-zero : (at : ℕ) (s t u : List ℕ) (j : ℕ) → BitsPut (λ p. 0) (8 * j) at s t 0 → u ≡ sets t (at + 8 * j) (le 8 0)
+    → BitsPut (λ p. 0) (8 * (j + 1)) at s u 0
+block-zero at s t u j w e =
+    let none : (p : ℕ) → bit 0 p ≡ 0 = λ p. bit-high 0 0 p (zero-lt-suc 0) (omega arith) in
+    block-word (λ p. 0) at s t u j 0 0 0 w e (λ p l. none p) (sym (sum-const (bit 0) 0 64 (λ p l. none p)))
 
 -- ---- a superblock stored and counted block by block
 pub record Blocks (g : ℕ → ℕ) (at : ℕ) (s t counts : List ℕ) (sum j : ℕ) : Type 0 where
@@ -465,27 +484,13 @@ pub record Blocks (g : ℕ → ℕ) (at : ℕ) (s t counts : List ℕ) (sum j : 
 pub blocks-none : (g : ℕ → ℕ) (at : ℕ) (s counts : List ℕ) → length counts ≡ 8 → Blocks g at s s counts 0 0
 blocks-none g at s counts h = record { put = bits-none g at s; counting = counting-none g counts h }
 
--- one block more, of eight words
-pub blocks-more : (ws : List ℕ) (w at : ℕ) (s t u counts block : List ℕ) (sum j q : ℕ) → Blocks (wordBits ws w) at s t counts sum j → j < 8
-    → ((i : ℕ) → i < 8 → getD block i 0 ≡ getD ws (w + 8 * j + i) 0) → BitsPut (bitAt block) 64 (at + 64 * j) t u q
-    → Blocks (wordBits ws w) at s u (set counts j (sum + q)) (sum + q) (j + 1)
-blocks-more ws w at s t u counts block sum j q x h words b =
-    let g : ℕ → ℕ = wordBits ws w in
-    let put : BitsPut g (64 * (j + 1)) at s u (sum + q) =
-    bits-more g at s t u (64 * j) 64 (64 * (j + 1)) sum q (x .put)
-    (bits-ext (λ p. g (8 * (64 * j) + p)) (at + 64 * j) t (bitAt block) u 64 q b same) (omega arith) in
+-- one block more
+pub blocks-more : (g : ℕ → ℕ) (at : ℕ) (s t u counts : List ℕ) (sum j q : ℕ) → Blocks g at s t counts sum j → j < 8
+    → BitsPut (λ p. g (8 * (64 * j) + p)) 64 (at + 64 * j) t u q → Blocks g at s u (set counts j (sum + q)) (sum + q) (j + 1)
+blocks-more g at s t u counts sum j q x h b =
+    let put : BitsPut g (64 * (j + 1)) at s u (sum + q) = bits-more g at s t u (64 * j) 64 (64 * (j + 1)) sum q (x .put) b (omega arith) in
+    let whole : 8 * (64 * (j + 1)) ≡ 512 * (j + 1) = omega arith in
     record { put = put; counting = counting-more g counts sum j (sum + q) (x .counting) h (put .count ∙ ap (ones g) whole) }
-  where
-    whole : 8 * (64 * (j + 1)) ≡ 512 * (j + 1)
-    whole = omega arith
-
-    same : (p : ℕ) → p < 8 * 64 → bitAt block p ≡ wordBits ws w (8 * (64 * j) + p)
-    same p l =
-        words-bits (λ p. wordBits ws w (8 * (64 * j) + p)) block 8 p
-        (λ i k y z.
-        let e : 64 * (w + 8 * j + i) + y ≡ 64 * w + (8 * (64 * j) + (64 * i + y)) = omega arith in
-        ap (λ (v : ℕ). bit v y) (words i k) ∙ sym (word-bit ws (w + 8 * j + i) y z) ∙ ap (bitAt ws) e)
-        l
 
 -- all eight are stored
 pub blocks-done : (g : ℕ → ℕ) (at : ℕ) (s t counts : List ℕ) (sum j : ℕ) → Blocks g at s t counts sum j → 8 ≤ j → CountedPut g at s t counts
@@ -493,29 +498,23 @@ blocks-done g at s t counts sum j x h =
     let e : 64 * j ≡ 512 = omega (arith, x .counting .within) in
     record { same = bits-size g at s t (64 * j) 512 sum (x .put) e .same; counted = counting-done g counts sum j (x .counting) h }
 
--- ---- a superblock stored: its entry in two halves, its bits through the scratch array
-pub superblock-stored : (g : ℕ → ℕ) (to : Target) (low high : ℕ) (s s1 s2 s3 bytes counts : List ℕ) → bytes ≡ bytesOf g 512 → BlockCounts g counts
-    → HalvesOf (entryFrom (to .before) counts) low high → s1 ≡ sets s (to .entry) (le 8 low) → s2 ≡ sets s1 (to .entry + 8) (le 8 high)
-    → s3 ≡ sets s2 (to .bits) bytes → SuperblockPut g to s s3 (to .before + getD counts 7 0)
-superblock-stored g to low high s s1 s2 s3 bytes counts is counted halves h1 h2 h3 =
+-- ---- a superblock stored: its bits, then its entry in two halves
+pub superblock-stored : (g : ℕ → ℕ) (to : Target) (low high : ℕ) (s s1 s2 s3 counts : List ℕ) → to .entry + 16 ≤ to .bits → CountedPut g (to .bits) s s1 counts
+    → HalvesOf (entryFrom (to .before) counts) low high → s2 ≡ sets s1 (to .entry) (le 8 low) → s3 ≡ sets s2 (to .entry + 8) (le 8 high)
+    → SuperblockPut g to s s3 (to .before + getD counts 7 0)
+superblock-stored g to low high s s1 s2 s3 counts far put halves h2 h3 =
     let a : ℕ = to .entry in
-    let sum : ℕ = to .before in
-    let word : low + 2 ^ 64 * high ≡ superblockEntry g sum = halves .whole ∙ entry-made g counts sum counted in
+    let E : List ℕ = le 16 (superblockEntry g (to .before)) in
+    let B : List ℕ = bytesOf g 512 in
+    let word : low + 2 ^ 64 * high ≡ superblockEntry g (to .before) = halves .whole ∙ entry-made g counts (to .before) (put .counted) in
     record {
       same =
           h3
-          ∙ ap₂ (λ (x y : List ℕ). sets x (to .bits) y)
-          (h2 ∙ ap (λ (l : List ℕ). sets l (a + 8) (le 8 high)) h1 ∙ put-join s a 8 8 low high (halves .small) ∙ ap (λ (v : ℕ). sets s a (le 16 v)) word) is;
-      count = ap (λ (x : ℕ). sum + x) (counted .ends 7 (lit< tt));
-    }
-
--- equal bits
-pub superblock-ext : (f g : ℕ → ℕ) (to : Target) (s t : List ℕ) (r : ℕ) → SuperblockPut f to s t r → ((p : ℕ) → p < 4096 → f p ≡ g p) → SuperblockPut g to s t r
-superblock-ext f g to s t r x h =
-    record {
-      same = x .same
-          ∙ ap₂ (λ (v : ℕ) (l : List ℕ). sets (sets s (to .entry) (le 16 v)) (to .bits) l) (entry-ext f g (to .before) h) (bytes-ext f g 512 h);
-      count = x .count ∙ ap (λ (c : ℕ). to .before + c) (sum-ext f g 4096 h);
+          ∙ ap (λ (l : List ℕ). sets l (a + 8) (le 8 high)) h2
+          ∙ put-join s1 a 8 8 low high (halves .small)
+          ∙ ap₂ (λ (l : List ℕ) (v : ℕ). sets l a (le 16 v)) (put .same) word
+          ∙ sets-comm E B s a (to .bits) (omega (arith, length-le 16 (superblockEntry g (to .before))));
+      count = ap (λ (x : ℕ). to .before + x) (put .counted .ends 7 (lit< tt));
     }
 
 -- ---- superblocks stored one after another

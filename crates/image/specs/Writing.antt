@@ -4,7 +4,7 @@ use mathlib.Core.Path.{_≡_}
 use mathlib.Core.List.{List}
 use lib.ListN.{length, getD}
 use lib.Seq.{sets}
-use Rattle.words.specs.Bits.{bitAt, ones, digits}
+use Rattle.words.specs.Bits.{ones, digits}
 use Rattle.words.specs.Handles.{blockBits}
 use Rattle.words.specs.Strip.{cell}
 use Rattle.words.specs.declared.handle.Handle.{Handle}
@@ -54,10 +54,6 @@ pub record HalvesOf (v low high : ℕ) : Type 0 where
   pub whole : low + 2 ^ 64 * high ≡ v
   pub small : low < 2 ^ 64
 
--- the bits from word w on
-abbrev pub wordBits : List ℕ → ℕ → ℕ → ℕ
-wordBits ws w p = bitAt ws (64 * w + p)
-
 -- t is s with the first m bytes of the bits g stored from byte `at` on; r is their ones
 pub record BitsPut (g : ℕ → ℕ) (m at : ℕ) (s t : List ℕ) (r : ℕ) : Type 0 where
   pub same : t ≡ sets s at (bytesOf g m)
@@ -72,7 +68,10 @@ pub record CountedPut (g : ℕ → ℕ) (at : ℕ) (s t counts : List ℕ) : Typ
 abbrev pub StripFits : List ℕ → ℕ → Type 0
 StripFits ws n = (n ≤ 64 * length ws) × (n ≤ mostRow)
 
--- the bits of superblock e of a strip
+-- the bits of a strip from word w on, and those of its superblock e
+abbrev pub wordCells : List ℕ → ℕ → ℕ → ℕ
+wordCells t w p = cell t (64 * w + p)
+
 abbrev pub superblockCells : List ℕ → ℕ → ℕ → ℕ
 superblockCells t e p = cell t (superblockBits * e + p)
 

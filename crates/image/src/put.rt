@@ -39,7 +39,7 @@ pub fn put_word(s: &mut [u8], at: usize, v: u64)
     s[at + 7] = low_byte(v >> 56);
 }
 
-// Stores the n bytes b from byte `at` on. Where n is a constant, the copy has a constant length.
+// Stores the n bytes b from byte `at` on.
 pub fn put_bytes(s: &mut [u8], at: usize, b: &[u8], n: usize)
     requires { ⌜ (length (now b) ≡ n) × (at + n ≤ length (now s)) ⌝ }
     ensures { λ _. ⌜ now (s .exit) ≡ sets (now (s .entry)) at (now (b .entry)) ⌝ }

@@ -4,9 +4,10 @@ ghost use Prim.Native.Nat.{ℕ, _+_, _*_, _^_, _<_, _≤_};
 ghost use lib.ListN.{length, getD};
 ghost use lib.Seq.{sets};
 ghost use Rattle.words.specs.Bits.{bit, bitAt};
+ghost use Rattle.words.specs.Handles.{blockBits};
 ghost use Rattle.words.specs.Strip.{cell, stripOf};
 ghost use Rattle.image.specs.Layout.{superblockBits, superblockBytes, entryBytes, mostBytes, mostRow, superblocksOf, recordOf, sizeOf};
-ghost use Rattle.image.specs.Writing.{EntryFits, entryFrom, HalvesOf, StripFits, superblockCells, wordBits, TargetFits};
+ghost use Rattle.image.specs.Writing.{EntryFits, entryFrom, HalvesOf, StripFits, superblockCells, wordCells, TargetFits};
 ghost use Rattle.image.specs.Writing.{BitsPut, CountedPut, SuperblockPut, RowPut};
 use super::layout::BLOCK_BYTES;
 use super::layout::ENTRY_BYTES;
@@ -14,13 +15,12 @@ use super::layout::HEAD_BYTES;
 use super::layout::LABEL_OFFSET;
 use super::layout::LENGTH_OFFSET;
 use super::layout::ONES_OFFSET;
-use super::layout::SUPERBLOCK_BITS;
 use super::layout::SUPERBLOCK_BYTES;
 use super::layout::bits_start;
 use super::layout::superblocks_of;
-use super::put::put_bytes;
 use super::put::put_le;
 use super::put::put_word;
+use words::BLOCK_BITS;
 use words::low_mask;
 use words::ones_of;
 
@@ -37,18 +37,6 @@ fn strip_word(words: &[u64], w: usize, n: usize) -> u64
         return words[w] & low_mask(left);
     }
     words[w]
-}
-
-// The 64 words from word w on of the first n bits of the words, zero past them.
-fn last_words(words: &[u64], w: usize, n: usize) -> [u64; 64]
-    requires { ⌜ StripFits (now words) n × (w + 64 ≤ mostRow) ⌝ }
-    ensures { λ r. ⌜ (length r ≡ 64) × ((p : ℕ) → p < superblockBits → bitAt r p ≡ cell (stripOf (now (words .entry)) n) (64 * w + p)) ⌝ }
-{
-    let mut tail = [0u64; 64];
-    for j in 0..64 {
-        tail[j] = strip_word(words, w + j, n);
-    }
-    tail
 }
 
 // The eight words from word w on.
@@ -77,15 +65,55 @@ fn put_block(bytes: &mut [u8], at: usize, block: [u64; 8]) -> usize
     sum
 }
 
-// Stores the 64 words from word w on, from byte `at` on. Answers the ones up to the end of each of their eight blocks.
-fn put_superblock(bytes: &mut [u8], at: usize, words: &[u64], w: usize) -> [usize; 8]
-    requires { ⌜ (at + superblockBytes ≤ length (now bytes)) × (w + 64 ≤ length (now words)) ⌝ }
-    ensures { λ r. ⌜ CountedPut (wordBits (now (words .entry)) w) at (now (bytes .entry)) (now (bytes .exit)) r ⌝ }
+// Stores a block of zeros from byte `at` on.
+fn put_zero_block(bytes: &mut [u8], at: usize)
+    requires { ⌜ at + 64 ≤ length (now bytes) ⌝ }
+    ensures { λ _. ⌜ BitsPut (λ p. 0) 64 at (now (bytes .entry)) (now (bytes .exit)) 0 ⌝ }
+{
+    for j in 0..8 {
+        put_word(bytes, at + 8 * j, 0);
+    }
+}
+
+// Stores the block from word w on of the first n bits of the words, zero past them, from byte `at` on. Answers its ones.
+fn put_cut_block(bytes: &mut [u8], at: usize, words: &[u64], w: usize, n: usize) -> usize
+    requires { ⌜ (at + 64 ≤ length (now bytes)) × StripFits (now words) n × (w + 8 ≤ mostRow) ⌝ }
+    ensures { λ r. ⌜ BitsPut (wordCells (stripOf (now (words .entry)) n) w) 64 at (now (bytes .entry)) (now (bytes .exit)) r ⌝ }
+{
+    let mut sum: usize = 0;
+    for j in 0..8 {
+        let x = strip_word(words, w + j, n);
+        put_word(bytes, at + 8 * j, x);
+        sum += ones_of(x);
+    }
+    sum
+}
+
+// The same. Only in the block in which the bits end is each word masked.
+fn put_strip_block(bytes: &mut [u8], at: usize, words: &[u64], w: usize, n: usize) -> usize
+    requires { ⌜ (at + 64 ≤ length (now bytes)) × StripFits (now words) n × (w + 8 ≤ mostRow) ⌝ }
+    ensures { λ r. ⌜ BitsPut (wordCells (stripOf (now (words .entry)) n) w) 64 at (now (bytes .entry)) (now (bytes .exit)) r ⌝ }
+{
+    if 64 * w + BLOCK_BITS <= n {
+        return put_block(bytes, at, block_words(words, w));
+    }
+    if n <= 64 * w {
+        put_zero_block(bytes, at);
+        return 0;
+    }
+    put_cut_block(bytes, at, words, w, n)
+}
+
+// Stores superblock e of the first n bits of the words, from byte `at` on. Answers the ones up to the end of each of its eight blocks.
+fn put_superblock(bytes: &mut [u8], at: usize, words: &[u64], n: usize, e: usize) -> [usize; 8]
+    requires { ⌜ (at + superblockBytes ≤ length (now bytes)) × StripFits (now words) n × (superblockBits * e < mostRow) ⌝ }
+    ensures { λ r. ⌜ CountedPut (superblockCells (stripOf (now (words .entry)) n) e) at (now (bytes .entry)) (now (bytes .exit)) r ⌝ }
 {
     let mut counts = [0usize; 8];
     let mut sum: usize = 0;
     for j in 0..8 {
-        sum += put_block(bytes, at + BLOCK_BYTES * j, block_words(words, w + 8 * j));
+        let w = 64 * e + 8 * j;
+        sum += put_strip_block(bytes, at + BLOCK_BYTES * j, words, w, n);
         counts[j] = sum;
     }
     counts
@@ -123,50 +151,23 @@ pub struct Target {
     pub before: usize,
 }
 
-// Writes the superblock of the 64 words from word w on, its bits through the scratch array. Answers the ones up to its end.
-fn write_superblock(
-    image: &mut [u8],
-    scratch: &mut [u8],
-    to: Target,
-    words: &[u64],
-    w: usize,
-) -> usize
-    requires { ⌜ TargetFits to (now image) × (length (now scratch) ≡ superblockBytes) × (w + 64 ≤ length (now words)) ⌝ }
-    ensures { λ r. ⌜ SuperblockPut (wordBits (now (words .entry)) w) to (now (image .entry)) (now (image .exit)) r ⌝ }
+// Writes superblock e of the first n bits of the words: its bits, counted as they are stored, then its entry. Answers the ones up to its end.
+fn write_superblock(image: &mut [u8], to: Target, words: &[u64], n: usize, e: usize) -> usize
+    requires { ⌜ TargetFits to (now image) × StripFits (now words) n × (superblockBits * e < mostRow) ⌝ }
+    ensures { λ r. ⌜ SuperblockPut (superblockCells (stripOf (now (words .entry)) n) e) to (now (image .entry)) (now (image .exit)) r ⌝ }
 {
-    let counts = put_superblock(scratch, 0, words, w);
+    let counts = put_superblock(image, to.bits, words, n, e);
     let halves = entry_halves(to.before, counts);
     put_word(image, to.entry, halves.low);
     put_word(image, to.entry + 8, halves.high);
-    put_bytes(image, to.bits, scratch, SUPERBLOCK_BYTES);
     to.before + counts[7]
 }
 
-// The same for superblock e of the first n bits of the words. Where they end inside it, its words are first made zero past them.
-fn write_strip_superblock(
-    image: &mut [u8],
-    scratch: &mut [u8],
-    to: Target,
-    words: &[u64],
-    n: usize,
-    e: usize,
-) -> usize
-    requires { ⌜ TargetFits to (now image) × (length (now scratch) ≡ superblockBytes) × StripFits (now words) n × (superblockBits * e < mostRow) ⌝ }
-    ensures { λ r. ⌜ SuperblockPut (superblockCells (stripOf (now (words .entry)) n) e) to (now (image .entry)) (now (image .exit)) r ⌝ }
-{
-    if SUPERBLOCK_BITS * (e + 1) <= n {
-        return write_superblock(image, scratch, to, words, 64 * e);
-    }
-    let tail = last_words(words, 64 * e, n);
-    write_superblock(image, scratch, to, &tail, 0)
-}
-
-// Writes the first n bits of the words, their entries from byte a on and their bits from byte b on, through one scratch array. Answers their ones.
+// Writes the first n bits of the words, their entries from byte a on and their bits from byte b on. Answers their ones.
 fn write_superblocks(image: &mut [u8], a: usize, b: usize, words: &[u64], n: usize) -> usize
     requires { ⌜ (b ≡ a + entryBytes * superblocksOf n) × (b + superblockBytes * superblocksOf n ≤ length (now image)) × StripFits (now words) n ⌝ }
     ensures { λ r. ⌜ RowPut (cell (stripOf (now (words .entry)) n)) (superblocksOf n) a b (now (image .entry)) (now (image .exit)) r ⌝ }
 {
-    let mut scratch = [0u8; SUPERBLOCK_BYTES];
     let mut sum: usize = 0;
     for e in 0..superblocks_of(n) {
         let entry = a + ENTRY_BYTES * e;
@@ -176,7 +177,7 @@ fn write_superblocks(image: &mut [u8], a: usize, b: usize, words: &[u64], n: usi
             bits,
             before: sum,
         };
-        sum = write_strip_superblock(image, &mut scratch, to, words, n, e);
+        sum = write_superblock(image, to, words, n, e);
     }
     sum
 }

@@ -1,10 +1,10 @@
 -- `image::write::put_block` meets its contract. The invariant: the words before j are stored and counted. Assumes nothing.
-use mathlib.Core.Path.{_≡_, refl}
+use mathlib.Core.Path.{_≡_, refl, sym}
 use Prim.Native.Nat.{_+_, _-_, _*_, _≤_}
 use native.Mathlib.Omega.{arith}
 use lib.ListN.{length}
 use Rattle.words.specs.Bits.{bitAt}
-use Rattle.words.proofs.WordLaws.{bitAt-le}
+use Rattle.words.proofs.WordLaws.{word-bit, bitAt-le}
 use Rattle.image.specs.Writing.{BitsPut}
 use Rattle.image.proofs.WriteLaws.{bits-none, bits-length, bits-le, bits-size, block-word}
 use borrow.Author.Needs.{needs}
@@ -46,7 +46,8 @@ next : (c : tie.After-ones-of Inv-loop μ-loop)
 next c =
     let l = c .before .before .before .before .before .before .loop in
     let a = c .before .before .before .before .before .before .before .before .args in
-    block-word (a .t3) (a .at) (a .bytes .now) (l .bytes) _ (l .j) (l .sum) _ (l .inv .2) (c .before .before .before .put-word .ensures) (c .ones-of .ensures)
+    block-word (bitAt (a .t3)) (a .at) (a .bytes .now) (l .bytes) _ (l .j) _ (l .sum) _ (l .inv .2) (c .before .before .before .put-word .ensures)
+    (λ p h. sym (word-bit (a .t3) (l .j) p h)) (c .ones-of .ensures)
 
 add-sum : tie.Need-add-sum Inv-loop μ-loop
 add-sum c =

@@ -1,66 +1,67 @@
 -- `image::write::put_superblock` meets its contract. The invariant: the blocks before j are stored and counted. Assumes nothing.
-use mathlib.Core.Path.{_≡_, refl}
-use Prim.Native.Nat.{_+_, _-_, _*_}
+use mathlib.Core.Path.{_≡_, refl, ap}
+use Prim.Native.Nat.{ℕ, _+_, _-_, _*_}
 use native.Mathlib.Omega.{arith}
 use lib.ListN.{length, set}
-use Rattle.words.proofs.WordLaws.{bitAt-le}
-use Rattle.image.specs.Writing.{wordBits}
-use Rattle.image.proofs.WriteLaws.{Blocks, blocks-none, blocks-more, blocks-done, bits-length, bits-le}
+use Rattle.words.specs.Strip.{cell, stripOf}
+use Rattle.words.proofs.StripLaws.{strip-le}
+use Rattle.image.specs.Writing.{superblockCells}
+use Rattle.image.proofs.WriteLaws.{Blocks, blocks-none, blocks-more, blocks-done, bits-ext, bits-length, bits-le}
 use borrow.Author.Needs.{needs}
 use Rattle.image.proofs.write.put_superblock.Statement.{statement}
 use Rattle.image.proofs.write.put_superblock.Tie as tie
 
 abbrev Inv-loop : tie.InvT-loop
-Inv-loop bytes₀ at words w counts₀ sum₀ j₀ bytes counts sum j =
-    (length bytes ≡ length bytes₀) × Blocks (wordBits words w) at bytes₀ bytes counts sum j
+Inv-loop bytes₀ at words n e counts₀ sum₀ j₀ bytes counts sum j =
+    (length bytes ≡ length bytes₀) × Blocks (superblockCells (stripOf words n) e) at bytes₀ bytes counts sum j
 
 abbrev μ-loop : tie.MeasureT-loop
-μ-loop bytes₀ at words w counts₀ sum₀ j₀ bytes counts sum j = 8 - j
+μ-loop bytes₀ at words n e counts₀ sum₀ j₀ bytes counts sum j = 8 - j
 
 loop-holds : tie.Need-loop-holds Inv-loop μ-loop
 loop-holds c = (refl, blocks-none _ _ _ _ refl)
 
-mul-put-block : tie.Need-mul-put-block Inv-loop μ-loop
-mul-put-block c = search needs
+mul-w : tie.Need-mul-w Inv-loop μ-loop
+mul-w c = search needs
 
-add-put-block : tie.Need-add-put-block Inv-loop μ-loop
-add-put-block c = search needs
+mul-w-2 : tie.Need-mul-w-2 Inv-loop μ-loop
+mul-w-2 c = search needs
 
-mul-block-words : tie.Need-mul-block-words Inv-loop μ-loop
-mul-block-words c = search needs
+add-w : tie.Need-add-w Inv-loop μ-loop
+add-w c = search needs
 
-add-block-words : tie.Need-add-block-words Inv-loop μ-loop
-add-block-words c = search needs
+mul-put-strip-block : tie.Need-mul-put-strip-block Inv-loop μ-loop
+mul-put-strip-block c = search needs
 
-block-words-requires : tie.Need-block-words-requires Inv-loop μ-loop
-block-words-requires c κs = search needs
+add-put-strip-block : tie.Need-add-put-strip-block Inv-loop μ-loop
+add-put-strip-block c = search needs
 
-put-block-requires : tie.Need-put-block-requires Inv-loop μ-loop
-put-block-requires c κs =
-    let l = c .before .before .before .loop in
-    (omega (arith, l .inv .0), c .block-words .ensures .0)
+put-strip-block-requires : tie.Need-put-strip-block-requires Inv-loop μ-loop
+put-strip-block-requires c κs = search needs
 
 -- one block more
 next : (c : tie.After-slice-known2 Inv-loop μ-loop)
     → let put = c .before .before in
-    let l = put .before .before .before .before .loop in
-    let a = put .before .before .before .before .before .before .before .args in
-    Blocks (wordBits (a .words .now) (a .w)) (a .at) (a .bytes .now) (put .put-block .last .0)
-    (set (l .counts) (l .j) (l .sum + put .put-block .result)) (l .sum + put .put-block .result) (l .j + 1)
+    let l = put .before .before .before .loop in
+    let a = put .before .before .before .before .before .before .args in
+    Blocks (superblockCells (stripOf (a .words .now) (a .n)) (a .e)) (a .at) (a .bytes .now) (put .put-strip-block .last .0)
+    (set (l .counts) (l .j) (l .sum + put .put-strip-block .result)) (l .sum + put .put-strip-block .result) (l .j + 1)
 next c =
     let put = c .before .before in
-    let words = put .before in
-    let test = words .before .before in
+    let test = put .before .before in
     let l = test .before .loop in
     let a = test .before .before .before .before .args in
-    blocks-more (a .words .now) (a .w) (a .at) (a .bytes .now) (l .bytes) _ (l .counts) (words .block-words .result) (l .sum) (l .j) _ (l .inv .1)
-    (test .loop-test .taken) (words .block-words .ensures .1) (put .put-block .ensures)
+    let t = stripOf (a .words .now) (a .n) in
+    let g = superblockCells t (a .e) in
+    let place : (p : ℕ) → 64 * (64 * a .e + 8 * l .j) + p ≡ 4096 * a .e + (8 * (64 * l .j) + p) = λ p. omega arith in
+    blocks-more g (a .at) (a .bytes .now) (l .bytes) _ (l .counts) (l .sum) (l .j) _ (l .inv .1) (test .loop-test .taken)
+    (bits-ext (λ p. g (8 * (64 * l .j) + p)) _ _ _ _ 64 _ (put .put-strip-block .ensures) (λ p h. ap (cell t) (place p)))
 
 add-sum : tie.Need-add-sum Inv-loop μ-loop
 add-sum c =
-    let l = c .before .before .before .before .before .before .loop in
-    let a = c .before .before .before .before .before .before .before .before .before .args in
-    let b = bits-le _ _ _ _ (64 * (l .j + 1)) _ (next c .put) (λ p. bitAt-le (a .words .now) (64 * a .w + p)) in
+    let l = c .before .before .before .before .before .loop in
+    let a = c .before .before .before .before .before .before .before .before .args in
+    let b = bits-le _ _ _ _ (64 * (l .j + 1)) _ (next c .put) (λ p. strip-le (a .words .now) (a .n) (4096 * a .e + p)) in
     omega (arith, b)
 
 mul-counts : tie.Need-mul-counts Inv-loop μ-loop
@@ -93,12 +94,12 @@ put-superblock-spec =
     Inv-loop
     μ-loop
     loop-holds
-    mul-put-block
-    add-put-block
-    mul-block-words
-    add-block-words
-    block-words-requires
-    put-block-requires
+    mul-w
+    mul-w-2
+    add-w
+    mul-put-strip-block
+    add-put-strip-block
+    put-strip-block-requires
     add-sum
     mul-counts
     array-write-counts

@@ -13,17 +13,17 @@ use Rattle.image.proofs.write.write_superblocks.Statement.{statement}
 use Rattle.image.proofs.write.write_superblocks.Tie as tie
 
 abbrev Inv-loop : tie.InvT-loop
-Inv-loop image₀ a b words n scratch₀ sum₀ e₀ e-end image scratch sum e =
-    (e ≤ superblocksOf n) × (length image ≡ length image₀) × (length scratch ≡ 512) × RowPut (cell (stripOf words n)) e a b image₀ image sum
+Inv-loop image₀ a b words n sum₀ e₀ e-end image sum e =
+    (e ≤ superblocksOf n) × (length image ≡ length image₀) × RowPut (cell (stripOf words n)) e a b image₀ image sum
 
 abbrev μ-loop : tie.MeasureT-loop
-μ-loop image₀ a b words n scratch₀ sum₀ e₀ e-end image scratch sum e = superblocksOf n - e
+μ-loop image₀ a b words n sum₀ e₀ e-end image sum e = superblocksOf n - e
 
 superblocks-of-requires : tie.Need-superblocks-of-requires Inv-loop μ-loop
 superblocks-of-requires c κs = search needs
 
 loop-holds : tie.Need-loop-holds Inv-loop μ-loop
-loop-holds c = (omega arith, refl, refl, row-none _ _ _ _)
+loop-holds c = (omega arith, refl, row-none _ _ _ _)
 
 mul-entry : tie.Need-mul-entry Inv-loop μ-loop
 mul-entry c = search needs
@@ -37,14 +37,11 @@ mul-bits c = search needs
 add-bits : tie.Need-add-bits Inv-loop μ-loop
 add-bits c = search needs
 
-slice-aggregate-write-strip-superblock : tie.Need-slice-aggregate-write-strip-superblock Inv-loop μ-loop
-slice-aggregate-write-strip-superblock c = search needs
-
-write-strip-superblock-requires : tie.Need-write-strip-superblock-requires Inv-loop μ-loop
-write-strip-superblock-requires c κs =
-    let l = c .before .before .before .loop in
-    let a = c .before .before .before .before .before .before .before .args in
-    let ones = row-le _ (l .e) _ _ _ (l .image) (l .sum) (l .inv .3) (strip-le (a .words .now) (a .n)) in
+write-superblock-requires : tie.Need-write-superblock-requires Inv-loop μ-loop
+write-superblock-requires c κs =
+    let l = c .before .before .loop in
+    let a = c .before .before .before .before .before .before .args in
+    let ones = row-le _ (l .e) _ _ _ (l .image) (l .sum) (l .inv .2) (strip-le (a .words .now) (a .n)) in
     omega (arith, ones)
 
 add-e : tie.Need-add-e Inv-loop μ-loop
@@ -55,12 +52,12 @@ loop-less c = search needs
 
 loop-again : tie.Need-loop-again Inv-loop μ-loop
 loop-again c =
-    let w = c .before .before .before in
-    let l = w .before .before .before .before .loop in
-    let a = w .before .before .before .before .before .before .before .before .args in
-    let row = row-more (cell (stripOf (a .words .now) (a .n))) (l .e) (a .a) (a .b) (a .image .now) (l .image) _ (l .sum) _ (l .inv .3)
-    (w .write-strip-superblock .ensures) (omega arith) in
-    (omega arith, row-length _ _ _ _ _ _ _ row, omega arith, row)
+    let w = c .before .before in
+    let l = w .before .before .before .loop in
+    let a = w .before .before .before .before .before .before .before .args in
+    let row = row-more (cell (stripOf (a .words .now) (a .n))) (l .e) (a .a) (a .b) (a .image .now) (l .image) _ (l .sum) _ (l .inv .2)
+    (w .write-superblock .ensures) (omega arith) in
+    (omega arith, row-length _ _ _ _ _ _ _ row, row)
 
 same-length : tie.Need-same-length Inv-loop μ-loop
 same-length c = search needs
@@ -70,7 +67,7 @@ returns c =
     let l = c .before .loop in
     let a = c .before .before .before .before .before .args in
     let whole : l .e ≡ superblocksOf (a .n) = omega arith in
-    subst (λ (k : ℕ). RowPut (cell (stripOf (a .words .now) (a .n))) k (a .a) (a .b) (a .image .now) (l .image) (l .sum)) whole (l .inv .3)
+    subst (λ (k : ℕ). RowPut (cell (stripOf (a .words .now) (a .n))) k (a .a) (a .b) (a .image .now) (l .image) (l .sum)) whole (l .inv .2)
 
 pub write-superblocks-spec : {M : Type 1} → statement M
 write-superblocks-spec =
@@ -84,8 +81,7 @@ write-superblocks-spec =
     add-entry
     mul-bits
     add-bits
-    slice-aggregate-write-strip-superblock
-    write-strip-superblock-requires
+    write-superblock-requires
     add-e
     loop-less
     loop-again
