@@ -10,7 +10,7 @@ use lib.Bits.{bitAnd, and-mask}
 use lib.Dec.{lit<}
 use lib.Pow.{pow-pos}
 use lib.ListN.{length, set, drop, getD, length-append, List·getD-append, List·getD-eq-default}
-use lib.Seq.{sets, length-sets, ext-getD, getD-set-same, getD-set-other, drop-drop, drop-append-seam, getD-drop}
+use lib.Seq.{sets, length-sets, ext-getD, drop-drop, drop-append-seam, getD-drop}
 use Rattle.words.specs.Bits.{bit, bitAt, ones, digits, listOf}
 use Rattle.words.specs.Strip.{cell, stripOf, rank, rankOf}
 use Rattle.words.proofs.Sums.{lt-or, sum-zero, sum-split, sum-ext, ones-le, length-listOf, getD-listOf, sum-const}
@@ -24,7 +24,7 @@ use Rattle.image.specs.Bytes.{num, le, bitFrom}
 use Rattle.image.specs.Layout.{mostRow, superblocksOf, bitsStart, sizeOf, superblockEntry, entryOf, entriesFrom, bytesOf, recordOf, kind}
 use Rattle.image.specs.Rows.{rowBits, Right}
 use Rattle.image.specs.Chain.{headerOf}
-use Rattle.image.specs.Writing.{BlockCounts, entryFrom, HalvesOf, wordCells, BitsPut, CountedPut, SuperblockPut, RowPut}
+use Rattle.image.specs.Writing.{entryFrom, HalvesOf, wordCells, BitsPut, CountedPut, SuperblockPut, RowPut}
 use Rattle.image.proofs.EntryLaws.{block-ones-lt, entry-made, entry-placed, Counting, counting-none, counting-more, counting-done}
 use Rattle.image.proofs.PutLaws.{length-le, le-small, num-of, sets-join, sets-comm, sets-front, put-join}
 
@@ -380,20 +380,6 @@ module _ (ws : List ℕ) (n w p : ℕ) where
 -- the first k words vs hold the bits f
 abbrev pub WordsHold : (ℕ → ℕ) → List ℕ → ℕ → Type 0
 WordsHold f vs k = (j : ℕ) → j < k → (q : ℕ) → q < 64 → bit (getD vs j 0) q ≡ f (64 * j + q)
-
--- one word more
-pub words-more : (f : ℕ → ℕ) (vs : List ℕ) (k x : ℕ) → k < length vs → WordsHold f vs k → ((q : ℕ) → q < 64 → bit x q ≡ f (64 * k + q))
-    → WordsHold f (set vs k x) (k + 1)
-words-more f vs k x h low is j l q m = ⊎-elim under at (lt-or j k)
-  where
-    under : j < k → bit (getD (set vs k x) j 0) q ≡ f (64 * j + q)
-    under u = ap (λ (y : ℕ). bit y q) (getD-set-other vs k j x 0 (λ e. omega arith)) ∙ low j u q m
-
-    at : k ≤ j → bit (getD (set vs k x) j 0) q ≡ f (64 * j + q)
-    at u =
-        let e : j ≡ k = omega arith in
-        ap (λ (i : ℕ). bit (getD (set vs k x) i 0) q) e
-        ∙ ap (λ (y : ℕ). bit y q) (getD-set-same vs k x 0 h) ∙ is q m ∙ ap (λ (i : ℕ). f (64 * i + q)) (sym e)
 
 -- their bits
 pub words-bits : (f : ℕ → ℕ) (vs : List ℕ) (k p : ℕ) → WordsHold f vs k → p < 64 * k → bitAt vs p ≡ f p

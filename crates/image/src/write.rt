@@ -4,7 +4,6 @@ ghost use Prim.Native.Nat.{ℕ, _+_, _*_, _^_, _<_, _≤_};
 ghost use lib.ListN.{length, getD};
 ghost use lib.Seq.{sets};
 ghost use Rattle.words.specs.Bits.{bit, bitAt};
-ghost use Rattle.words.specs.Handles.{blockBits};
 ghost use Rattle.words.specs.Strip.{cell, stripOf};
 ghost use Rattle.image.specs.Layout.{superblockBits, superblockBytes, entryBytes, mostBytes, mostRow, superblocksOf, recordOf, sizeOf};
 ghost use Rattle.image.specs.Writing.{EntryFits, entryFrom, HalvesOf, StripFits, superblockCells, wordCells, TargetFits};
