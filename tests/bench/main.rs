@@ -16,6 +16,7 @@ mod ffi;
 #[path = "../src/random.rs"]
 mod random;
 
+mod figures;
 mod other;
 mod pair;
 mod record;
@@ -23,6 +24,7 @@ mod row;
 mod scan;
 mod waiting;
 
+use figures::{quartiles, word};
 use other::{Roaring, Sdsl};
 use pair::{Pair, Rule};
 use random::Random;
@@ -170,23 +172,6 @@ fn sum((least, most): (usize, usize)) -> usize {
 
 fn found((earliest, latest): (usize, Option<usize>)) -> usize {
     earliest + latest.unwrap_or_default()
-}
-
-/// Lower quartile, median, upper quartile.
-fn quartiles(mut figures: Vec<f64>) -> Option<[f64; 3]> {
-    figures.sort_by(f64::total_cmp);
-    let last = figures.len().checked_sub(1)?;
-    Some([1, 2, 3].map(|q| figures[q * last / 4]))
-}
-
-/// A word with about `share` ones of 64: 1, 32 or 63.
-fn word(random: &mut Random, share: usize) -> u64 {
-    let rare = |random: &mut Random| (0..6).fold(!0, |x, _| x & random.number());
-    match share {
-        1 => rare(random),
-        63 => !rare(random),
-        _ => random.number(),
-    }
 }
 
 /// Strip, row and the rest over the same bits; the pair has a second strip beside it, and `waiting` its waiting strip.
