@@ -1,5 +1,6 @@
 #!/usr/bin/env -S python3 -B
-"""Fills the tables of BENCHMARKS.md and draws its plots, from benchmarks.tsv, which tests/bench/run writes.
+"""Fills the tables of BENCHMARKS.md and draws its plots, from benchmarks.tsv, which tests/bench/run writes, and
+freeze.tsv, which tests/bench/freeze writes.
 
 A table stands between the lines `<!-- table NAME -->` and `<!-- end -->`.
 """
@@ -74,10 +75,19 @@ FUNCTIONS = {
     "waiting find": ("strip_waiting_find", "waiting_find"),
 }
 
+# The functions of tests/bench/freeze.cpp, and what they do.
+HAND = {
+    "hand_copy": "`hand_copy`: stores the words, counts nothing",
+    "hand_count": "`hand_count`: counts the ones of each block, stores nothing",
+    "hand_freeze": "`hand_freeze`: the whole of freeze, ones counted vector by vector",
+    "hand_merged": "`hand_merged`: the same, counts of three vectors merged",
+    "hand_popcnt": "`hand_popcnt`: the same with popcnt, which baseline x86-64 has not",
+}
+
 
 class Results:
-    def __init__(self):
-        self.lines = [row.split("\t") for row in (HERE / "benchmarks.tsv").read_text(encoding="utf-8").splitlines()]
+    def __init__(self, name):
+        self.lines = [row.split("\t") for row in (HERE / name).read_text(encoding="utf-8").splitlines()]
 
     def kind(self, name):
         return [row[1:] for row in self.lines if row[0] == name]
@@ -267,6 +277,50 @@ def freeze_table(of):
     return table(["bits", "ones", "library", "C++", "memcpy", "memcpy / library", "library, GB/s"], rows)
 
 
+def micros(of, kind, *key):
+    """Three times in µs, the middle one first."""
+    low, middle, high = (f"{x / 1000:,.1f}" if x >= 9995 else f"{x / 1000:.2f}" for x in of.three(kind, *key))
+    return f"{middle} ({low}–{high})"
+
+
+def before_table(of):
+    """Freeze before and after a change, and the cells in which an aim is met."""
+    rows = []
+    for cell in cells():
+        key = *cell, "freeze"
+        times = [micros(of, "time", *key, column) for column in ("before", "library", "memcpy")]
+        ratios = [spread(of, key, pair) for pair in ("library / before", "memcpy / before", "memcpy / library")]
+        rows.append([f"2^{cell[0]}", cell[1], *times[:2], ratios[0], times[2], *ratios[1:]])
+    head = ["bits", "ones", "before, µs", "library, µs", "library / before", "memcpy, µs", "before's speed over memcpy's", "library's speed over memcpy's"]
+    reached = [of.three("ratio", "24", share, "freeze", "memcpy / library")[1] for share in SHARES]
+    aim = verdict(sum(x >= 0.75 for x in reached), len(reached))
+    return with_note(table(head, rows)) + ["", f"Aim: three quarters of memcpy's speed at 2^24: {aim}."]
+
+
+def hand_table(of):
+    """Freeze by hand and its parts, half ones."""
+    rows = []
+    for column in ("memcpy", "library", *HAND):
+        row = [HAND.get(column, column)]
+        for power in POWERS:
+            key = power, "32/64", "freeze"
+            measured = of.three("time", *key, column)
+            row += [micros(of, "time", *key, column), spread(of, key, f"memcpy / {column}")] if measured else ["", ""]
+        rows.append(row)
+    return with_note(table([""] + [f"2^{power}: {x}" for power in POWERS for x in ("µs", "speed over memcpy's")], rows))
+
+
+def places_table(of):
+    """Freeze from places of the stack that are spread over a page."""
+    rows = [[column] + [micros(of, "place", power, "32/64", "freeze", column) for power in POWERS] for column in ("before", "library")]
+    return table(["quickest call at a place, µs"] + [f"2^{power}" for power in POWERS], rows)
+
+
+def other_machine_table(of, known):
+    """The lines on a machine that are not those of another run."""
+    return table(["", ""], [row for row in of.kind("machine") if row not in known.kind("machine")])
+
+
 def alone_table(of):
     rows = []
     granted = {(row[0], row[2]): int(row[3]) for row in of.kind("bytes")}
@@ -435,7 +489,7 @@ def times_plot(of):
 
 
 def main():
-    of = Results()
+    of, changed = Results("benchmarks.tsv"), Results("freeze.tsv")
     tables = {
         "summary": summary_table, "machine": machine_table, "aims": aims_table, "others": others_table,
         "freeze": freeze_table, "alone": alone_table, "flips": flips_table, "instructions": instructions_table, "memory": memory_table, "stack": stack_table,
@@ -444,6 +498,8 @@ def main():
     }  # fmt: skip
     made = {name: make(of) for name, make in tables.items()}
     made |= {f"2^{power}": calls_table(of, power) for power in POWERS}
+    made |= {"before": before_table(changed), "places": places_table(changed), "hand": hand_table(changed)}
+    made["before-machine"] = other_machine_table(changed, of)
 
     def fill(found):
         return "\n".join([found[1], "", *made[found[2]], "", "<!-- end -->"])
