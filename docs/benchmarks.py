@@ -75,6 +75,8 @@ FUNCTIONS = {
     "waiting find": ("strip_waiting_find", "waiting_find"),
 }
 
+# The least share of memcpy's speed that freeze is to reach at 2^24.
+FREEZE_AIM = 0.75
 # The functions of tests/bench/freeze.cpp, and what they do.
 HAND = {
     "hand_copy": "`hand_copy`: stores the words, counts nothing",
@@ -192,7 +194,7 @@ def aims_of(of, name, calls):
         aims.append("1/200 of the scan at 2^24: " + verdict(sum(x >= 200 for x in parts), len(parts)))
     if name == "freeze":
         parts = speeds(of, "freeze", "memcpy", powers=("24",))
-        aims.append("half of memcpy at 2^24: " + verdict(sum(x >= 0.5 for x in parts), len(parts)))
+        aims.append("three quarters of memcpy at 2^24: " + verdict(sum(x >= FREEZE_AIM for x in parts), len(parts)))
     return "; ".join(aims) or "none set"
 
 
@@ -248,7 +250,7 @@ def others_table(of):
     for call in ("find 1", "find 0"):
         for column in ("scan", "scan, popcnt"):
             row(f"{call}: 1/200 of the {column}", "24", speeds(of, call, column, powers=("24",)), lambda x: x >= 200, "1/{:.0f}")
-    row("freeze: half of memcpy's speed", "24", speeds(of, "freeze", "memcpy", powers=("24",)), lambda x: x >= 0.5, "{:.2f}")
+    row("freeze: three quarters of memcpy's speed", "24", speeds(of, "freeze", "memcpy", powers=("24",)), lambda x: x >= FREEZE_AIM, "{:.2f}")
     return table(["aim", "bits", "reached, by ones 1/64, 32/64, 63/64", ""], rows)
 
 
@@ -293,7 +295,7 @@ def before_table(of):
         rows.append([f"2^{cell[0]}", cell[1], *times[:2], ratios[0], times[2], *ratios[1:]])
     head = ["bits", "ones", "before, µs", "library, µs", "library / before", "memcpy, µs", "before's speed over memcpy's", "library's speed over memcpy's"]
     reached = [of.three("ratio", "24", share, "freeze", "memcpy / library")[1] for share in SHARES]
-    aim = verdict(sum(x >= 0.75 for x in reached), len(reached))
+    aim = verdict(sum(x >= FREEZE_AIM for x in reached), len(reached))
     return with_note(table(head, rows)) + ["", f"Aim: three quarters of memcpy's speed at 2^24: {aim}."]
 
 
