@@ -38,7 +38,7 @@ pub counts-ext : (f g : ℕ → ℕ) (c : List ℕ) → BlockCounts f c → ((p 
 counts-ext f g c h e =
     record { long = h .long; ends = λ j l. h .ends j l ∙ sum-ext f g (512 * (j + 1)) (λ p q. e p (omega arith)) }
 
--- that of superblock e, with the row's ones before it, is entry e
+-- the entry of superblock e, with the row's ones before it, is entry e of the row
 pub entry-placed : (f : ℕ → ℕ) (e sum : ℕ) → sum ≡ ones f (4096 * e) → superblockEntry (λ p. f (4096 * e + p)) sum ≡ entryOf f e
 unfolding entryOf
 entry-placed f e sum h = ap (superblockEntry (λ p. f (4096 * e + p))) h

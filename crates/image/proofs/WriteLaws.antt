@@ -13,8 +13,8 @@ use lib.ListN.{length, set, drop, getD, length-append, List·getD-append, List·
 use lib.Seq.{sets, length-sets, ext-getD, drop-drop, drop-append-seam, getD-drop}
 use Rattle.words.specs.Bits.{bit, bitAt, ones, digits, listOf}
 use Rattle.words.specs.Strip.{cell, stripOf, rank, rankOf}
-use Rattle.words.proofs.Sums.{lt-or, sum-zero, sum-split, sum-ext, ones-le, length-listOf, getD-listOf, sum-const}
-use Rattle.words.proofs.BitLaws.{bit-shr, bit-mod, bit-high}
+use Rattle.words.proofs.Sums.{lt-or, sum-zero, sum-split, sum-ext, ones-le, length-listOf, getD-listOf, sum-const, sum-none}
+use Rattle.words.proofs.BitLaws.{zero-bit, bit-shr, bit-mod, bit-high}
 use Rattle.words.proofs.WordLaws.{word-bit}
 use Rattle.words.proofs.DigitLaws.{field, digits-ext, digits-at, digits-of}
 use Rattle.words.proofs.SearchLaws.{rank-ones}
@@ -358,10 +358,14 @@ module _ (x l : ℕ) (t : List ℕ) where
         (append-small es bs (entries-small (cell t) 0 (superblocksOf (length t))) (λ i. bytes-small (cell t) (512 * superblocksOf (length t)) i bits)))))
 
 -- ---- a word of a strip
+-- past its length a strip has no ones
+strip-past : (ws : List ℕ) (n p : ℕ) → n ≤ p → cell (stripOf ws n) p ≡ 0
+strip-past ws n p h = listOf-past (bitAt ws) n p h
+
 module _ (ws : List ℕ) (n w p : ℕ) where
   -- past the length
   pub word-none : n ≤ 64 * w → bit 0 p ≡ cell (stripOf ws n) (64 * w + p)
-  word-none h = bit-high 0 0 p (zero-lt-suc 0) (omega arith) ∙ sym (listOf-past (bitAt ws) n (64 * w + p) (omega arith))
+  word-none h = zero-bit p ∙ sym (strip-past ws n (64 * w + p) (omega arith))
 
   -- before it
   pub word-all : 64 * w + 64 ≤ n → p < 64 → bit (getD ws w 0) p ≡ cell (stripOf ws n) (64 * w + p)
@@ -374,18 +378,8 @@ module _ (ws : List ℕ) (n w p : ℕ) where
       ap (λ (y : ℕ). bit y p) (and-mask x m)
       ∙ ⊎-elim
       (λ q. bit-mod x m p q ∙ sym (strip-cell ws n (64 * w + p) (omega arith) ∙ word-bit ws w p l))
-      (λ q. bit-high (x % 2 ^ m) m p (mod-lt x (pow-pos m)) q ∙ sym (listOf-past (bitAt ws) n (64 * w + p) (omega arith)))
+      (λ q. bit-high (x % 2 ^ m) m p (mod-lt x (pow-pos m)) q ∙ sym (strip-past ws n (64 * w + p) (omega arith)))
       (lt-or p m)
-
--- the first k words vs hold the bits f
-abbrev pub WordsHold : (ℕ → ℕ) → List ℕ → ℕ → Type 0
-WordsHold f vs k = (j : ℕ) → j < k → (q : ℕ) → q < 64 → bit (getD vs j 0) q ≡ f (64 * j + q)
-
--- their bits
-pub words-bits : (f : ℕ → ℕ) (vs : List ℕ) (k p : ℕ) → WordsHold f vs k → p < 64 * k → bitAt vs p ≡ f p
-words-bits f vs k p h l =
-    let e : 64 * (p / 64) + p % 64 ≡ p = omega arith in
-    h (p / 64) (omega arith) (p % 64) (omega arith) ∙ ap f e
 
 -- ---- bits stored as bytes
 module _ (g : ℕ → ℕ) (at : ℕ) (s : List ℕ) where
@@ -435,31 +429,30 @@ pub block-whole : (ws : List ℕ) (n w at : ℕ) (s t block : List ℕ) (r : ℕ
     → ((j : ℕ) → j < 8 → getD block j 0 ≡ getD ws (w + j) 0) → BitsPut (bitAt block) 64 at s t r → BitsPut (wordCells (stripOf ws n) w) 64 at s t r
 block-whole ws n w at s t block r h words x =
     bits-ext (wordCells (stripOf ws n) w) at s (bitAt block) t 64 r x
-    (λ p l. words-bits (wordCells (stripOf ws n) w) block 8 p
-    (λ j k q m.
-    let e : 64 * (w + j) + q ≡ 64 * w + (64 * j + q) = omega arith in
-    ap (λ (v : ℕ). bit v q) (words j k) ∙ word-all ws n (w + j) q (omega arith) m ∙ ap (cell (stripOf ws n)) e)
-    (omega arith))
+    (λ p l.
+    let e : 64 * (w + p / 64) + p % 64 ≡ 64 * w + p = omega arith in
+    ap (λ (v : ℕ). bit v (p % 64)) (words (p / 64) (omega arith))
+    ∙ word-all ws n (w + p / 64) (p % 64) (omega arith) (omega arith)
+    ∙ ap (cell (stripOf ws n)) e)
 
 -- a block past it
 pub block-past : (ws : List ℕ) (n w at : ℕ) (s t : List ℕ) → n ≤ 64 * w → BitsPut (λ p. 0) 64 at s t 0 → BitsPut (wordCells (stripOf ws n) w) 64 at s t 0
 block-past ws n w at s t h x =
-    bits-ext (wordCells (stripOf ws n) w) at s (λ p. 0) t 64 0 x (λ p l. sym (listOf-past (bitAt ws) n (64 * w + p) (omega arith)))
+    bits-ext (wordCells (stripOf ws n) w) at s (λ p. 0) t 64 0 x (λ p l. sym (strip-past ws n (64 * w + p) (omega arith)))
 
 -- one word more
-pub block-word : (g : ℕ → ℕ) (at : ℕ) (s t u : List ℕ) (j x r q : ℕ) → BitsPut g (8 * j) at s t r → u ≡ sets t (at + 8 * j) (le 8 x)
+pub word-more : (g : ℕ → ℕ) (at : ℕ) (s t u : List ℕ) (j x r q : ℕ) → BitsPut g (8 * j) at s t r → u ≡ sets t (at + 8 * j) (le 8 x)
     → ((p : ℕ) → p < 64 → bit x p ≡ g (64 * j + p)) → q ≡ ones (bit x) 64 → BitsPut g (8 * (j + 1)) at s u (r + q)
-block-word g at s t u j x r q w e same c =
+word-more g at s t u j x r q w e same c =
     let place : (p : ℕ) → 64 * j + p ≡ 8 * (8 * j) + p = λ p. omega arith in
     bits-more g at s t u (8 * j) 8 (8 * (j + 1)) r q w
     (bits-word (λ p. g (8 * (8 * j) + p)) (at + 8 * j) t u x q e (λ p l. same p l ∙ ap g (place p)) c) (omega arith)
 
 -- a word of zeros more
-pub block-zero : (at : ℕ) (s t u : List ℕ) (j : ℕ) → BitsPut (λ p. 0) (8 * j) at s t 0 → u ≡ sets t (at + 8 * j) (le 8 0)
+pub zero-more : (at : ℕ) (s t u : List ℕ) (j : ℕ) → BitsPut (λ p. 0) (8 * j) at s t 0 → u ≡ sets t (at + 8 * j) (le 8 0)
     → BitsPut (λ p. 0) (8 * (j + 1)) at s u 0
-block-zero at s t u j w e =
-    let none : (p : ℕ) → bit 0 p ≡ 0 = λ p. bit-high 0 0 p (zero-lt-suc 0) (omega arith) in
-    block-word (λ p. 0) at s t u j 0 0 0 w e (λ p l. none p) (sym (sum-const (bit 0) 0 64 (λ p l. none p)))
+zero-more at s t u j w e =
+    word-more (λ p. 0) at s t u j 0 0 0 w e (λ p l. zero-bit p) (sym (sum-none (bit 0) 64 (λ p l. zero-bit p)))
 
 -- ---- a superblock stored and counted block by block
 pub record Blocks (g : ℕ → ℕ) (at : ℕ) (s t counts : List ℕ) (sum j : ℕ) : Type 0 where

@@ -15,12 +15,15 @@ unitBytes = 16
 abbrev pub kind : ℕ
 kind = 1
 
--- the bits of a superblock, the image's block of 4,096 bits, whose parts of 512 bits are blocks; and the bytes of an entry
+-- the bits of a superblock, the image's block of 4,096 bits, whose parts of 512 bits are blocks; the bytes of both; and the bytes of an entry
 abbrev pub superblockBits : ℕ
 superblockBits = 4096
 
 abbrev pub superblockBytes : ℕ
 superblockBytes = superblockBits / 8
+
+abbrev pub blockBytes : ℕ
+blockBytes = blockBits / 8
 
 abbrev pub entryBytes : ℕ
 entryBytes = 16

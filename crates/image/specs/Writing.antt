@@ -64,10 +64,6 @@ pub record CountedPut (g : ℕ → ℕ) (at : ℕ) (s t counts : List ℕ) : Typ
   pub same : t ≡ sets s at (bytesOf g superblockBytes)
   pub counted : BlockCounts g counts
 
--- the words hold n bits, and a row may have so many
-abbrev pub StripFits : List ℕ → ℕ → Type 0
-StripFits ws n = (n ≤ 64 * length ws) × (n ≤ mostRow)
-
 -- the bits of a strip from word w on, and those of its superblock e
 abbrev pub wordCells : List ℕ → ℕ → ℕ → ℕ
 wordCells t w p = cell t (64 * w + p)

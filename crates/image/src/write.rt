@@ -4,9 +4,10 @@ ghost use Prim.Native.Nat.{ℕ, _+_, _*_, _^_, _<_, _≤_};
 ghost use lib.ListN.{length, getD};
 ghost use lib.Seq.{sets};
 ghost use Rattle.words.specs.Bits.{bit, bitAt};
+ghost use Rattle.words.specs.Handles.{blockBits};
 ghost use Rattle.words.specs.Strip.{cell, stripOf};
-ghost use Rattle.image.specs.Layout.{superblockBits, superblockBytes, entryBytes, mostBytes, mostRow, superblocksOf, recordOf, sizeOf};
-ghost use Rattle.image.specs.Writing.{EntryFits, entryFrom, HalvesOf, StripFits, superblockCells, wordCells, TargetFits};
+ghost use Rattle.image.specs.Layout.{superblockBits, superblockBytes, blockBytes, entryBytes, mostBytes, mostRow, superblocksOf, recordOf, sizeOf};
+ghost use Rattle.image.specs.Writing.{EntryFits, entryFrom, HalvesOf, superblockCells, wordCells, TargetFits};
 ghost use Rattle.image.specs.Writing.{BitsPut, CountedPut, SuperblockPut, RowPut};
 use super::layout::BLOCK_BYTES;
 use super::layout::ENTRY_BYTES;
@@ -25,7 +26,7 @@ use words::ones_of;
 
 // Word w of the first n bits of the words, zero past them.
 fn strip_word(words: &[u64], w: usize, n: usize) -> u64
-    requires { ⌜ StripFits (now words) n × (w ≤ mostRow) ⌝ }
+    requires { ⌜ (n ≤ 64 * length (now words)) × (64 * w < mostRow) ⌝ }
     ensures { λ r. ⌜ ((p : ℕ) → p < 64 → bit r p ≡ cell (stripOf (now (words .entry)) n) (64 * w + p)) ⌝ }
 {
     if n <= 64 * w {
@@ -52,8 +53,8 @@ fn block_words(words: &[u64], w: usize) -> [u64; 8]
 
 // Stores a block of eight words from byte `at` on. Answers its ones. The words come by value: no store lies between their reads.
 fn put_block(bytes: &mut [u8], at: usize, block: [u64; 8]) -> usize
-    requires { ⌜ (at + 64 ≤ length (now bytes)) × (length block ≡ 8) ⌝ }
-    ensures { λ r. ⌜ BitsPut (bitAt block) 64 at (now (bytes .entry)) (now (bytes .exit)) r ⌝ }
+    requires { ⌜ (at + blockBytes ≤ length (now bytes)) × (length block ≡ 8) ⌝ }
+    ensures { λ r. ⌜ BitsPut (bitAt block) blockBytes at (now (bytes .entry)) (now (bytes .exit)) r ⌝ }
 {
     let mut sum: usize = 0;
     for j in 0..8 {
@@ -66,8 +67,8 @@ fn put_block(bytes: &mut [u8], at: usize, block: [u64; 8]) -> usize
 
 // Stores a block of zeros from byte `at` on.
 fn put_zero_block(bytes: &mut [u8], at: usize)
-    requires { ⌜ at + 64 ≤ length (now bytes) ⌝ }
-    ensures { λ _. ⌜ BitsPut (λ p. 0) 64 at (now (bytes .entry)) (now (bytes .exit)) 0 ⌝ }
+    requires { ⌜ at + blockBytes ≤ length (now bytes) ⌝ }
+    ensures { λ _. ⌜ BitsPut (λ p. 0) blockBytes at (now (bytes .entry)) (now (bytes .exit)) 0 ⌝ }
 {
     for j in 0..8 {
         put_word(bytes, at + 8 * j, 0);
@@ -76,8 +77,8 @@ fn put_zero_block(bytes: &mut [u8], at: usize)
 
 // Stores the block from word w on of the first n bits of the words, zero past them, from byte `at` on. Answers its ones.
 fn put_cut_block(bytes: &mut [u8], at: usize, words: &[u64], w: usize, n: usize) -> usize
-    requires { ⌜ (at + 64 ≤ length (now bytes)) × StripFits (now words) n × (w + 8 ≤ mostRow) ⌝ }
-    ensures { λ r. ⌜ BitsPut (wordCells (stripOf (now (words .entry)) n) w) 64 at (now (bytes .entry)) (now (bytes .exit)) r ⌝ }
+    requires { ⌜ (at + blockBytes ≤ length (now bytes)) × (n ≤ 64 * length (now words)) × (64 * w + blockBits ≤ mostRow) ⌝ }
+    ensures { λ r. ⌜ BitsPut (wordCells (stripOf (now (words .entry)) n) w) blockBytes at (now (bytes .entry)) (now (bytes .exit)) r ⌝ }
 {
     let mut sum: usize = 0;
     for j in 0..8 {
@@ -88,10 +89,10 @@ fn put_cut_block(bytes: &mut [u8], at: usize, words: &[u64], w: usize, n: usize)
     sum
 }
 
-// The same. Only in the block in which the bits end is each word masked.
+// The same. Only a block in which the bits end goes word by word.
 fn put_strip_block(bytes: &mut [u8], at: usize, words: &[u64], w: usize, n: usize) -> usize
-    requires { ⌜ (at + 64 ≤ length (now bytes)) × StripFits (now words) n × (w + 8 ≤ mostRow) ⌝ }
-    ensures { λ r. ⌜ BitsPut (wordCells (stripOf (now (words .entry)) n) w) 64 at (now (bytes .entry)) (now (bytes .exit)) r ⌝ }
+    requires { ⌜ (at + blockBytes ≤ length (now bytes)) × (n ≤ 64 * length (now words)) × (64 * w + blockBits ≤ mostRow) ⌝ }
+    ensures { λ r. ⌜ BitsPut (wordCells (stripOf (now (words .entry)) n) w) blockBytes at (now (bytes .entry)) (now (bytes .exit)) r ⌝ }
 {
     if 64 * w + BLOCK_BITS <= n {
         return put_block(bytes, at, block_words(words, w));
@@ -103,9 +104,9 @@ fn put_strip_block(bytes: &mut [u8], at: usize, words: &[u64], w: usize, n: usiz
     put_cut_block(bytes, at, words, w, n)
 }
 
-// Stores superblock e of the first n bits of the words, from byte `at` on. Answers the ones up to the end of each of its eight blocks.
+// Stores the bits of superblock e of the first n bits of the words, from byte `at` on. Answers the ones up to the end of each of its eight blocks.
 fn put_superblock(bytes: &mut [u8], at: usize, words: &[u64], n: usize, e: usize) -> [usize; 8]
-    requires { ⌜ (at + superblockBytes ≤ length (now bytes)) × StripFits (now words) n × (superblockBits * e < mostRow) ⌝ }
+    requires { ⌜ (at + superblockBytes ≤ length (now bytes)) × (n ≤ 64 * length (now words)) × (superblockBits * e < mostRow) ⌝ }
     ensures { λ r. ⌜ CountedPut (superblockCells (stripOf (now (words .entry)) n) e) at (now (bytes .entry)) (now (bytes .exit)) r ⌝ }
 {
     let mut counts = [0usize; 8];
@@ -152,7 +153,7 @@ pub struct Target {
 
 // Writes superblock e of the first n bits of the words: its bits, counted as they are stored, then its entry. Answers the ones up to its end.
 fn write_superblock(image: &mut [u8], to: Target, words: &[u64], n: usize, e: usize) -> usize
-    requires { ⌜ TargetFits to (now image) × StripFits (now words) n × (superblockBits * e < mostRow) ⌝ }
+    requires { ⌜ TargetFits to (now image) × (n ≤ 64 * length (now words)) × (superblockBits * e < mostRow) ⌝ }
     ensures { λ r. ⌜ SuperblockPut (superblockCells (stripOf (now (words .entry)) n) e) to (now (image .entry)) (now (image .exit)) r ⌝ }
 {
     let counts = put_superblock(image, to.bits, words, n, e);
@@ -164,7 +165,8 @@ fn write_superblock(image: &mut [u8], to: Target, words: &[u64], n: usize, e: us
 
 // Writes the first n bits of the words, their entries from byte a on and their bits from byte b on. Answers their ones.
 fn write_superblocks(image: &mut [u8], a: usize, b: usize, words: &[u64], n: usize) -> usize
-    requires { ⌜ (b ≡ a + entryBytes * superblocksOf n) × (b + superblockBytes * superblocksOf n ≤ length (now image)) × StripFits (now words) n ⌝ }
+    requires { ⌜ (b ≡ a + entryBytes * superblocksOf n) × (b + superblockBytes * superblocksOf n ≤ length (now image)) ×
+        (n ≤ 64 * length (now words)) × (n ≤ mostRow) ⌝ }
     ensures { λ r. ⌜ RowPut (cell (stripOf (now (words .entry)) n)) (superblocksOf n) a b (now (image .entry)) (now (image .exit)) r ⌝ }
 {
     let mut sum: usize = 0;

@@ -6,7 +6,7 @@ use lib.ListN.{length}
 use Rattle.words.specs.Bits.{bitAt}
 use Rattle.words.proofs.WordLaws.{word-bit, bitAt-le}
 use Rattle.image.specs.Writing.{BitsPut}
-use Rattle.image.proofs.WriteLaws.{bits-none, bits-length, bits-le, bits-size, block-word}
+use Rattle.image.proofs.WriteLaws.{bits-none, bits-length, bits-le, bits-size, word-more}
 use borrow.Author.Needs.{needs}
 use Rattle.image.proofs.write.put_block.Statement.{statement}
 use Rattle.image.proofs.write.put_block.Tie as tie
@@ -46,7 +46,7 @@ next : (c : tie.After-ones-of Inv-loop μ-loop)
 next c =
     let l = c .before .before .before .before .before .before .loop in
     let a = c .before .before .before .before .before .before .before .before .args in
-    block-word (bitAt (a .t3)) (a .at) (a .bytes .now) (l .bytes) _ (l .j) _ (l .sum) _ (l .inv .2) (c .before .before .before .put-word .ensures)
+    word-more (bitAt (a .t3)) (a .at) (a .bytes .now) (l .bytes) _ (l .j) _ (l .sum) _ (l .inv .2) (c .before .before .before .put-word .ensures)
     (λ p h. sym (word-bit (a .t3) (l .j) p h)) (c .ones-of .ensures)
 
 add-sum : tie.Need-add-sum Inv-loop μ-loop

@@ -6,7 +6,7 @@ use lib.ListN.{length}
 use Rattle.words.specs.Strip.{cell, stripOf}
 use Rattle.words.proofs.StripLaws.{strip-le}
 use Rattle.image.specs.Writing.{wordCells, BitsPut}
-use Rattle.image.proofs.WriteLaws.{bits-none, bits-length, bits-le, bits-size, block-word}
+use Rattle.image.proofs.WriteLaws.{bits-none, bits-length, bits-le, bits-size, word-more}
 use borrow.Author.Needs.{needs}
 use Rattle.image.proofs.write.put_cut_block.Statement.{statement}
 use Rattle.image.proofs.write.put_cut_block.Tie as tie
@@ -52,7 +52,7 @@ next c =
     let a = word .before .before .before .before .before .args in
     let t = stripOf (a .words .now) (a .n) in
     let place : (p : ℕ) → 64 * (a .w + l .j) + p ≡ 64 * a .w + (64 * l .j + p) = λ p. omega arith in
-    block-word (wordCells t (a .w)) (a .at) (a .bytes .now) (l .bytes) _ (l .j) _ (l .sum) _ (l .inv .2) (c .before .before .before .put-word .ensures)
+    word-more (wordCells t (a .w)) (a .at) (a .bytes .now) (l .bytes) _ (l .j) _ (l .sum) _ (l .inv .2) (c .before .before .before .put-word .ensures)
     (λ p h. word .strip-word .ensures p h ∙ ap (cell t) (place p)) (c .ones-of .ensures)
 
 add-sum : tie.Need-add-sum Inv-loop μ-loop

@@ -4,7 +4,7 @@ use Prim.Native.Nat.{_-_, _*_, _≤_}
 use native.Mathlib.Omega.{arith}
 use lib.ListN.{length}
 use Rattle.image.specs.Writing.{BitsPut}
-use Rattle.image.proofs.WriteLaws.{bits-none, bits-length, bits-size, block-zero}
+use Rattle.image.proofs.WriteLaws.{bits-none, bits-length, bits-size, zero-more}
 use borrow.Author.Needs.{needs}
 use Rattle.image.proofs.write.put_zero_block.Statement.{statement}
 use Rattle.image.proofs.write.put_zero_block.Tie as tie
@@ -37,7 +37,7 @@ loop-again : tie.Need-loop-again Inv-loop μ-loop
 loop-again c =
     let put = c .before .before in
     let l = put .before .before .before .loop in
-    let next = block-zero _ _ _ _ (l .j) (l .inv .2) (put .put-word .ensures) in
+    let next = zero-more _ _ _ _ (l .j) (l .inv .2) (put .put-word .ensures) in
     (omega arith, bits-length _ _ _ _ _ _ next, next)
 
 same-length : tie.Need-same-length Inv-loop μ-loop
