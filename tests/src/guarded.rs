@@ -1,7 +1,7 @@
 //! Numbers lent to a call, with others on both sides to which it must not write.
 
-/// How many numbers stand on each side.
-const SIDE: usize = 16;
+/// How many numbers stand on each side: an odd number, so that those lent start at a multiple of their own size alone.
+const SIDE: usize = 17;
 
 /// Numbers between two guards.
 pub struct Guarded<T> {

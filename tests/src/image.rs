@@ -7,6 +7,7 @@ use crate::ffi::{
 };
 use crate::guarded::Guarded;
 use crate::refusal::{answer, Answer, Refusal};
+use crate::waiting::Pointers;
 use crate::{Handle, Lent};
 
 /// Runs a call on bytes between two guards.
@@ -40,10 +41,17 @@ pub fn clear(image: &mut [u8]) -> Answer {
 pub fn freeze(h: Handle, words: &[u64], image: &mut [u8], label: u64) -> Answer {
     let mut lent = Lent::new(words);
     let (words, count) = lent.lend();
-    let told =
-        change(image, |bytes, size| unsafe { image_freeze(h.capacity, h.length, words, count, bytes, size, label) });
+    let told = unsafe { freeze_from((h, words, count), image, label) };
     lent.unchanged();
     told
+}
+
+/// The same from wherever the words lie.
+///
+/// # Safety
+/// The pointer is to so many words, which live through the call.
+pub unsafe fn freeze_from((h, words, count): Pointers, image: &mut [u8], label: u64) -> Answer {
+    change(image, |bytes, size| unsafe { image_freeze(h.capacity, h.length, words, count, bytes, size, label) })
 }
 
 /// The bytes of a row's record.

@@ -39,7 +39,8 @@ pub struct Lent {
     copy: Vec<u64>,
 }
 
-const GUARD: [u64; 2] = [0x5bd1_e995_ffff_0000, 0xa5a5_a5a5_5a5a_5a5a];
+/// Three words, so that those lent start at no multiple of 16 bytes.
+const GUARD: [u64; 3] = [0x5bd1_e995_ffff_0000, 0xa5a5_a5a5_5a5a_5a5a, 0x0000_ffff_6a09_e667];
 
 impl Lent {
     pub fn new(words: &[u64]) -> Lent {

@@ -299,6 +299,40 @@ fn freeze_of_each_length() {
     }
 }
 
+/// Every length up to a bit past two superblocks: a strip at unit 1, in as few words as hold it, and its opposite after it, in
+/// more. Ones stand past the length, and in every byte that a record is written to and after it: a bit too many or a byte left
+/// out shows, and in one of the two a bit too few.
+#[test]
+fn freeze_of_every_length() {
+    let mut cases = Cases::new("image", "freeze_of_every_length", 87);
+    for length in 0..=8193 {
+        cases.run(|random| {
+            let bits = random.bits(length, 500);
+            let opposite: Vec<bool> = bits.iter().map(|b| !b).collect();
+            let least = length.next_multiple_of(512).max(512);
+            let mut image = vec![0xff; 16 + 2 * layout::size(length) + 23];
+            assert_eq!(clear(&mut image), Ok(16));
+            for (label, capacity, mut lent) in [(1, least, bits), (2, least + 512 + 4096, opposite)] {
+                lent.resize(capacity as usize, true);
+                assert!(compare_freeze(&mut image, (Handle { capacity, length }, &lent), label).is_ok());
+            }
+        });
+    }
+}
+
+/// A strip of the greatest length, most of it ones. It repeats after an odd number of bits, so that words taken from a power of
+/// two too near or too far show.
+#[test]
+fn the_longest_strip_frozen() {
+    Cases::new("image", "the_longest_strip_frozen", 88).run(|random| {
+        let mut lent = random.bits(4099, 900).repeat(LARGEST as usize / 4099 + 1);
+        lent.truncate(LARGEST as usize);
+        let mut image = cleared(16 + layout::size(LARGEST));
+        let h = Handle { capacity: LARGEST, length: LARGEST };
+        assert_eq!(compare_freeze(&mut image, (h, &lent), 64), Ok(1));
+    });
+}
+
 #[test]
 fn a_long_strip_frozen_and_read() {
     Cases::new("image", "a_long_strip_frozen_and_read", 72).run(|random| {
@@ -598,6 +632,24 @@ fn the_largest_image() {
         assert_eq!(answer(ffi::image_row_label(bytes, most, 1)), Err(LabelAbsent));
         assert_eq!(answer(ffi::image_row_label(bytes, most + 1, 0)), Err(Unsound));
     }
+}
+
+/// A record that ends where the largest image ends, after an empty row; with a byte fewer there is no room.
+#[test]
+fn freeze_at_the_end_of_the_largest_image() {
+    let (bits, words) = (text("01010"), [10u64, 0, 0, 0, 0, 0, 0, 0]);
+    let mut image = vec![0u8; MOST_BYTES];
+    let at = MOST_BYTES - layout::size(5);
+    let last = at - 16;
+    image[4] = 1;
+    layout::store(&mut image, 0, last as u64 / 16);
+    image[last..at].copy_from_slice(&layout::record(0, 1, &[]));
+    let (bytes, w) = (image.as_mut_ptr(), words.as_ptr());
+    // SAFETY: as in `the_largest_image`.
+    let told = [MOST_BYTES - 1, MOST_BYTES].map(|size| unsafe { ffi::image_freeze(512, 5, w, 8, bytes, size, 3) });
+    assert_eq!(told.map(answer), [Err(NoRoom), Ok(at as u64 / 16)]);
+    assert_eq!(layout::chain(&image), Some(vec![last, at]));
+    assert_eq!(image[at..], layout::record(0, 3, &bits));
 }
 
 #[test]

@@ -1,19 +1,21 @@
-//! Which words the calls on two strips read, a strip's waiting strip being the second of two: of either strip those that hold
-//! what is asked for, and no other. The others are lent in closed pages. A call that reads one of them, or writes any, is not
-//! told as a failed test: a signal ends the process of this file, and `--test-threads=1` shows in which test.
+//! Which words freeze and the calls on two strips read, a strip's waiting strip being the second of two: of each strip those
+//! that hold what is asked for, and no other. The others are lent in closed pages. A call that reads one of them, or writes
+//! any, is not told as a failed test: a signal ends the process of this file, and `--test-threads=1` shows in which test.
 use std::fmt::Debug;
 use std::ops::Range;
 use strip_tests::borders::{beside, FAR};
 use strip_tests::cases::Cases;
+use strip_tests::image::freeze_from;
+use strip_tests::layout;
 use strip_tests::model::{self, word_count};
 use strip_tests::pages::{Pages, PAGE};
 use strip_tests::pair::{counts, Comparison};
 use strip_tests::random::Random;
-use strip_tests::refusal::{Bounded, Bounds, Refusal, Signed};
+use strip_tests::refusal::{Answer, Bounded, Bounds, Refusal, Signed};
 use strip_tests::waiting::{Pointers, Waiting};
 use strip_tests::Handle;
 use Comparison::{Find, Span};
-use Refusal::{BadHandle, NotFound, Position, Unequal, WordCount};
+use Refusal::{BadHandle, BadLabel, LabelPresent, NoRoom, NotFound, Position, Unequal, Unsound, WordCount};
 
 /// The words of a strip: four pages of them.
 const WORDS: usize = 4 * PAGE;
@@ -289,5 +291,58 @@ fn refused_read_nothing() {
     }
     for (a, b) in [(1, 0), (64, 63), (65, 64), (LENGTH, LENGTH - 1), (LENGTH, 0)] {
         expect(Span(a, b), [&good, &good], 0..0, Err(Refusal::Span));
+    }
+}
+
+/// Freezes where these words alone can be read, and asserts the answer and every byte: with a closed page right before them,
+/// and with one right after them.
+fn expect_freeze(strip: &Strip, bits: &[bool], open: Range<usize>, image: &[u8], label: u64) -> Answer {
+    let mut wanted = image.to_vec();
+    let owed = layout::freeze(strip.handle, bits, &mut wanted, label);
+    for border in [open.start, open.end] {
+        let pages = Pages::new(&strip.words, open.clone(), border);
+        let ((words, count), mut given) = (pages.lend(), image.to_vec());
+        // SAFETY: as in `expect`.
+        let told = unsafe { freeze_from((strip.handle, words, count), &mut given, label) };
+        assert_eq!(told, owed, "label {label} under {:?}, words {open:?}", strip.handle);
+        assert!(given == wanted, "bytes of label {label} under {:?}, words {open:?}", strip.handle);
+    }
+    owed
+}
+
+/// Freeze reads up to the last word that the length reaches: at the ends of the words of two superblocks, and further on.
+#[test]
+fn freeze_reads() {
+    Cases::new("reads", "freeze_reads", 510).run(|random| {
+        let [mut strip, _] = any_strips(random);
+        let bits = model::bits_of(&strip.words);
+        let ends = (1..=129).flat_map(|word| beside(64 * word));
+        for length in ends.chain(positions()).chain([0, LENGTH, CAPACITY - 1, CAPACITY]) {
+            strip.handle.length = length;
+            let image = layout::image(&[], layout::size(length) / 16);
+            assert_eq!(expect_freeze(&strip, &bits, 0..words_below(length), &image, 3), Ok(1));
+        }
+    });
+}
+
+/// A refused one reads nothing.
+#[test]
+fn refused_freeze_reads_nothing() {
+    let image = layout::image(&[(0, 3, vec![true; 7])], layout::size(LENGTH) / 16);
+    let (short, mut unsound) = (&image[..image.len() - 1], image.clone());
+    unsound[8] = 1;
+    for (capacity, length, count, image, label, refusal) in [
+        (CAPACITY, CAPACITY + 1, WORDS, &image[..], 4, BadHandle),
+        (CAPACITY - 1, LENGTH, WORDS, &image, 4, BadHandle),
+        (CAPACITY, LENGTH, WORDS - 1, &image, 4, WordCount),
+        (CAPACITY, LENGTH, WORDS + 1, &image, 4, WordCount),
+        (CAPACITY, LENGTH, WORDS, &unsound, 4, Unsound),
+        (CAPACITY, LENGTH, WORDS, &image, 65, BadLabel),
+        (CAPACITY, LENGTH, WORDS, &image, 3, LabelPresent),
+        (CAPACITY, LENGTH, WORDS, short, 4, NoRoom),
+    ] {
+        let strip = strip(capacity, length, vec![u64::MAX; count]);
+        let bits = model::bits_of(&strip.words);
+        assert_eq!(expect_freeze(&strip, &bits, 0..0, image, label), Err(refusal));
     }
 }
