@@ -75,8 +75,8 @@ FUNCTIONS = {
     "waiting find": ("strip_waiting_find", "waiting_find"),
 }
 
-# The least share of memcpy's speed that freeze is to reach at 2^24.
-FREEZE_AIM = 0.75
+# The least share of memcpy's speed that freeze is to reach at 2^24, and its name.
+FREEZE_AIM, FREEZE_SHARE = 0.75, "three quarters of memcpy"
 # The functions of tests/bench/freeze.cpp, and what they do.
 HAND = {
     "hand_copy": "`hand_copy`: stores the words, counts nothing",
@@ -194,7 +194,7 @@ def aims_of(of, name, calls):
         aims.append("1/200 of the scan at 2^24: " + verdict(sum(x >= 200 for x in parts), len(parts)))
     if name == "freeze":
         parts = speeds(of, "freeze", "memcpy", powers=("24",))
-        aims.append("three quarters of memcpy at 2^24: " + verdict(sum(x >= FREEZE_AIM for x in parts), len(parts)))
+        aims.append(f"{FREEZE_SHARE} at 2^24: " + verdict(sum(x >= FREEZE_AIM for x in parts), len(parts)))
     return "; ".join(aims) or "none set"
 
 
@@ -250,7 +250,7 @@ def others_table(of):
     for call in ("find 1", "find 0"):
         for column in ("scan", "scan, popcnt"):
             row(f"{call}: 1/200 of the {column}", "24", speeds(of, call, column, powers=("24",)), lambda x: x >= 200, "1/{:.0f}")
-    row("freeze: three quarters of memcpy's speed", "24", speeds(of, "freeze", "memcpy", powers=("24",)), lambda x: x >= FREEZE_AIM, "{:.2f}")
+    row(f"freeze: {FREEZE_SHARE}'s speed", "24", speeds(of, "freeze", "memcpy", powers=("24",)), lambda x: x >= FREEZE_AIM, "{:.2f}")
     return table(["aim", "bits", "reached, by ones 1/64, 32/64, 63/64", ""], rows)
 
 
@@ -296,7 +296,7 @@ def before_table(of):
     head = ["bits", "ones", "before, µs", "library, µs", "library / before", "memcpy, µs", "before's speed over memcpy's", "library's speed over memcpy's"]
     reached = [of.three("ratio", "24", share, "freeze", "memcpy / library")[1] for share in SHARES]
     aim = verdict(sum(x >= FREEZE_AIM for x in reached), len(reached))
-    return with_note(table(head, rows)) + ["", f"Aim: three quarters of memcpy's speed at 2^24: {aim}."]
+    return with_note(table(head, rows)) + ["", f"Aim: {FREEZE_SHARE}'s speed at 2^24: {aim}."]
 
 
 def hand_table(of):
@@ -316,6 +316,16 @@ def places_table(of):
     """Freeze from places of the stack that are spread over a page."""
     rows = [[column] + [micros(of, "place", power, "32/64", "freeze", column) for power in POWERS] for column in ("before", "library")]
     return table(["quickest call at a place, µs"] + [f"2^{power}" for power in POWERS], rows)
+
+
+def short_table(of):
+    """Freeze of short strips before and after a change."""
+    rows = []
+    for length in dict.fromkeys(row[0] for row in of.kind("short")):
+        key = length, "32/64", "freeze"
+        (a, b, c), (d, e, f), (low, middle, high) = (of.three("short", *key, x) for x in ("before", "library", "library / before"))
+        rows.append([f"{int(length):,}", f"{b:.1f} ({a:.1f}–{c:.1f})", f"{e:.1f} ({d:.1f}–{f:.1f})", f"{middle:.2f} ({low:.2f}–{high:.2f})"])
+    return table(["length", "before, ns", "library, ns", "library / before"], rows)
 
 
 def other_machine_table(of, known):
@@ -500,7 +510,7 @@ def main():
     }  # fmt: skip
     made = {name: make(of) for name, make in tables.items()}
     made |= {f"2^{power}": calls_table(of, power) for power in POWERS}
-    made |= {"before": before_table(changed), "places": places_table(changed), "hand": hand_table(changed)}
+    made |= {"before": before_table(changed), "short": short_table(changed), "places": places_table(changed), "hand": hand_table(changed)}
     made["before-machine"] = other_machine_table(changed, of)
 
     def fill(found):

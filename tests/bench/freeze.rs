@@ -6,6 +6,8 @@
 //!   time   power  density  freeze  column  lower quartile, median, upper quartile, in ns a call
 //!   ratio  power  density  freeze  columns  the same, over the rounds
 //!   place  power  density  freeze  column  least, median, greatest time over places of the stack, in ns
+//!   short  length  density  freeze  column  as time, of strips of a few superblocks, in as few words as hold them
+//!   short  length  density  freeze  columns  as ratio
 //! `freeze ROUNDS POWER ..` takes other rounds and sizes.
 #[allow(dead_code)]
 #[path = "../src/ffi.rs"]
@@ -69,17 +71,23 @@ const LABEL: u64 = 7;
 /// `before` may, depends on where in a page the stack lies.
 const PAGE: usize = 4096;
 
-/// How many places of the stack are compared, and how many calls are made at each, of which the quickest counts.
+/// How many places of the stack are compared, and how many measurements are made at each, of which the quickest call counts.
 const PLACES: usize = 32;
-const CALLS: usize = 9;
+const MEASUREMENTS: usize = 30;
+
+/// The lengths of short strips, and how many calls make a figure.
+const LENGTHS: [usize; 10] = [1, 63, 511, 512, 513, 2048, 4095, 4096, 4097, 20_000];
+const CALLS: usize = 200;
 
 /// The bytes of an image with a row of so many bits.
 fn image_size(bits: usize) -> usize {
     32 + bits / 256 + bits / 8
 }
 
-/// The memory of all strips and images: the time of a copy depends on which pages it goes over, so these are the same
-/// for all sizes and densities.
+/// The time of a copy depends on which pages it goes over: the rounds take turns over so many strips and images, which are
+/// the same for all sizes and densities.
+const MEMORIES: usize = 8;
+
 struct Memory {
     words: Vec<u64>,
     image: Vec<u8>,
@@ -95,31 +103,42 @@ impl Memory {
         let (mut random, bits) = (Random::new(1), 1 << power);
         let (words, image) = (&mut self.words[..bits / 64], &mut self.image[..image_size(bits)]);
         words.fill_with(|| word(&mut random, share));
-        Bench { words, image }
+        Bench { length: bits, words, image }
+    }
+
+    /// A strip of so many bits, half ones, in as few words as hold it, and room for its image.
+    fn short(&mut self, length: usize) -> Bench<'_> {
+        let mut random = Random::new(1);
+        let size = 32 + 528 * length.div_ceil(4096);
+        let (words, image) = (&mut self.words[..8 * length.div_ceil(512)], &mut self.image[..size]);
+        words.fill_with(|| word(&mut random, 32));
+        Bench { length, words, image }
     }
 }
 
 struct Bench<'a> {
+    length: usize,
     words: &'a [u64],
     image: &'a mut [u8],
 }
 
 impl Bench<'_> {
     /// One call, and its answer: where a freeze of the library puts the record, the ones of a count, or 0.
-    // SAFETY: the pointers are to as many numbers as are named with them, the row has whole superblocks and fills the
-    // image, and popcnt is called where the machine has it.
+    // SAFETY: the pointers are to as many numbers as are named with them, the row fills the image, it has whole
+    // superblocks but for the two libraries, and popcnt is called where the machine has it.
     fn call(&mut self, column: Column) -> usize {
-        let (words, count, n) = (self.words.as_ptr(), self.words.len(), 64 * self.words.len() as u64);
+        let (words, count, n) = (self.words.as_ptr(), self.words.len(), self.length as u64);
+        let capacity = 64 * count as u64;
         let (image, size, label) = (self.image.as_mut_ptr(), self.image.len(), LABEL as u32);
         unsafe {
             match column {
                 Column::Before => {
                     before_image_clear(image, size);
-                    return before_image_freeze(n, n, words, count, image, size, LABEL) as usize;
+                    return before_image_freeze(capacity, n, words, count, image, size, LABEL) as usize;
                 }
                 Column::Library => {
                     image_clear(image, size);
-                    return image_freeze(n, n, words, count, image, size, LABEL) as usize;
+                    return image_freeze(capacity, n, words, count, image, size, LABEL) as usize;
                 }
                 Column::Count => return hand_count(words, count),
                 Column::Memcpy => image.add(size - 8 * count).copy_from_nonoverlapping(words.cast(), 8 * count),
@@ -192,18 +211,44 @@ fn deeper(top: usize, bytes: usize, call: &mut dyn FnMut()) {
     black_box(&local);
 }
 
-fn run(memory: &mut Memory, power: u32, share: usize, rounds: usize) {
-    let mut bench = memory.bench(power, share);
+/// Prints the quartiles of some figures.
+fn print(kind: &str, at: &str, what: &str, figures: Vec<f64>) {
+    if let Some([a, b, c]) = quartiles(figures) {
+        println!("{kind}\t{at}\tfreeze\t{what}\t{a:.3}\t{b:.3}\t{c:.3}");
+    }
+}
+
+/// The library and `before`, of a short strip, in alternating rounds; a figure is the time of one of many calls.
+fn short(memories: &mut [Memory], length: usize, rounds: usize) {
+    let mut benches: Vec<_> = memories.iter_mut().map(|memory| memory.short(length)).collect();
+    benches[0].compare(&COLUMNS[..2]);
+    let mut figures = [Vec::new(), Vec::new()];
+    spread(rounds, |number| {
+        let bench = &mut benches[number / 2 % MEMORIES];
+        for y in 0..4 {
+            let y = (y + number) % 2;
+            let began = Instant::now();
+            (0..CALLS).for_each(|_| _ = black_box(bench.call(COLUMNS[y].0)));
+            figures[y].push(began.elapsed().as_nanos() as f64 / CALLS as f64);
+        }
+    });
+    let warm = |y: usize| figures[y].iter().skip(1).step_by(2).copied();
+    let at = format!("{length}\t32/64");
+    print("short", &at, COLUMNS[0].1, warm(0).collect());
+    print("short", &at, COLUMNS[1].1, warm(1).collect());
+    print("short", &at, "library / before", warm(1).zip(warm(0)).map(|(a, b)| a / b).collect());
+}
+
+fn run(memories: &mut [Memory], power: u32, share: usize, rounds: usize) {
+    let mut benches: Vec<_> = memories.iter_mut().map(|memory| memory.bench(power, share)).collect();
     let has_popcnt = std::is_x86_feature_detected!("popcnt");
     let columns: Vec<_> = COLUMNS.into_iter().filter(|x| has_popcnt || x.0 != Column::Popcnt).collect();
-    bench.compare(&columns);
+    benches[0].compare(&columns);
     let mut figures = vec![Vec::new(); columns.len()];
-    spread(rounds, |number| bench.round(number, &columns, &mut figures));
-    let at = format!("{power}\t{share}/64\tfreeze");
+    spread(rounds, |number| benches[number / 2 % MEMORIES].round(number, &columns, &mut figures));
+    let at = format!("{power}\t{share}/64");
     for (y, (_, column)) in columns.iter().enumerate() {
-        if let Some([a, b, c]) = quartiles(figures[y].concat()) {
-            println!("time\t{at}\t{column}\t{a:.2}\t{b:.2}\t{c:.2}");
-        }
+        print("time", &at, column, figures[y].concat());
     }
     // The rounds' ratios. Memcpy's time over that of a column is the column's speed over memcpy's.
     let place = |name: &str| columns.iter().position(|x| x.1 == name);
@@ -211,22 +256,22 @@ fn run(memory: &mut Memory, power: u32, share: usize, rounds: usize) {
     for (over, under) in [("library", "before")].into_iter().chain(others) {
         let (Some(y), Some(z)) = (place(over), place(under)) else { continue };
         let medians = |y: usize| figures[y].iter().filter_map(|f| Some(quartiles(f.clone())?[1]));
-        let ratios = medians(y).zip(medians(z)).map(|(a, b)| a / b).collect();
-        if let Some([a, b, c]) = quartiles(ratios) {
-            println!("ratio\t{at}\t{over} / {under}\t{a:.3}\t{b:.3}\t{c:.3}");
-        }
+        print("ratio", &at, &format!("{over} / {under}"), medians(y).zip(medians(z)).map(|(a, b)| a / b).collect());
     }
 }
 
-/// The library and `before`, half ones, from places of the stack that are spread over a page.
+/// The library and `before`, half ones, from places of the stack that are spread over a page, which take their turn.
 fn places(memory: &mut Memory, power: u32) {
     let mut bench = memory.bench(power, 32);
-    for (column, name) in &COLUMNS[..2] {
-        let mut figures = Vec::new();
-        spread(PLACES, |_| {
-            let least = (0..CALLS).flat_map(|_| bench.measure(*column)).min_by(f64::total_cmp);
-            figures.extend(least);
+    let mut figures = [[f64::INFINITY; PLACES]; 2];
+    for _ in 0..MEASUREMENTS {
+        spread(PLACES, |place| {
+            for (column, figures) in COLUMNS.iter().zip(&mut figures) {
+                figures[place] = bench.measure(column.0).into_iter().fold(figures[place], f64::min);
+            }
         });
+    }
+    for ((_, name), mut figures) in COLUMNS.iter().zip(figures) {
         figures.sort_by(f64::total_cmp);
         let [a, b, c] = [0, PLACES / 2, PLACES - 1].map(|x| figures[x]);
         println!("place\t{power}\t32/64\tfreeze\t{name}\t{a:.2}\t{b:.2}\t{c:.2}");
@@ -235,16 +280,20 @@ fn places(memory: &mut Memory, power: u32) {
 
 fn main() {
     let numbers: Vec<usize> = std::env::args().skip(1).map(|x| x.parse().expect("a number")).collect();
-    let rounds = numbers.first().copied().unwrap_or(40);
+    let rounds = numbers.first().copied().unwrap_or(200);
     let mut powers: Vec<u32> = numbers.iter().skip(1).map(|x| *x as u32).collect();
     if powers.is_empty() {
         powers = vec![20, 24, 27];
     }
-    let mut memory = Memory::new(powers.iter().map(|power| 1 << power).max().unwrap_or_default());
+    let most = powers.iter().map(|power| 1 << power).max().unwrap_or_default();
+    let mut memories: Vec<_> = (0..MEMORIES).map(|_| Memory::new(most)).collect();
+    for length in LENGTHS {
+        short(&mut memories, length, rounds);
+    }
     for power in powers {
         for share in [1, 32, 63] {
-            run(&mut memory, power, share, rounds);
+            run(&mut memories, power, share, rounds);
         }
-        places(&mut memory, power);
+        places(&mut memories[0], power);
     }
 }
