@@ -1,5 +1,5 @@
--- Two strips joined by a rule, for any rule: words joined bit by bit join the strips; counting and finding in them, word by word. Then the four rules, and the
--- ones of a span. Assumes nothing.
+-- Two strips joined by a rule, for any rule: words joined bit by bit join the strips; counting and finding in them, word by word. Then the four rules.
+-- Assumes nothing.
 use mathlib.Core.Path.{_≡_, refl, sym, ap, ap₂, _∙_}
 use mathlib.Core.List.{List}
 use Prim.Native.Nat.{ℕ, zero, suc, min, max, _+_, _-_, _*_, _/_, _%_, _^_, _≤_, _<_}
@@ -18,7 +18,6 @@ use Rattle.words.proofs.SearchLaws.{rank-part, rank-ones, part-select}
 use Rattle.words.proofs.StripLaws.{strip-cell, strip-length, strip-le, strip-rank, listed-rank, listed-select}
 use Rattle.pairs.specs.Rules.{both, either, onlyFirst, differ, joined}
 use Rattle.pairs.specs.Working.{JoinedWord, joinedBit}
-use Rattle.pairs.specs.Calls.{spanOnes}
 
 -- ---- any rule
 module _ (r : ℕ → ℕ → ℕ) where
@@ -114,28 +113,3 @@ joined-only-first x y h =
 
 pub joined-differ : (x y : ℕ) → JoinedWord differ x y (bitXor x y)
 joined-differ x y = by-table B.differ differ x y (bitXor x y) refl refl refl refl (λ p l. bit-xor x y p)
-
--- ---- a span
--- its ones and those before it are the ones before its end
-pub span-rank : (s : List ℕ) (a b : ℕ) → ((p : ℕ) → cell s p ≤ 1) → a ≤ b → b ≤ length s → rank s 1 a + spanOnes s a b ≡ rank s 1 b
-span-rank s a b bits la lb =
-    let m : a + (b - a) ≡ b = add-sub-of-le la in
-    let before : (i : ℕ) → i ≤ length s → rank s 1 i ≡ ones (cell s) i =
-    (λ i l. let e : min i (length s) ≡ i = omega arith in ap (rankOf (cell s) 1) e ∙ rank-ones (cell s) i bits) in
-    let split : ones (cell s) b ≡ ones (cell s) a + spanOnes s a b = rw m at (sum-split (cell s) a (b - a)) in
-    omega (arith, before a (omega arith), before b lb, split)
-
--- no more than its positions
-pub span-le : (s : List ℕ) (a b : ℕ) → ((p : ℕ) → cell s p ≤ 1) → spanOnes s a b ≤ b - a
-span-le s a b bits = ones-le (λ p. cell s (a + p)) (b - a) (λ p. bits (a + p))
-
--- counted in words
-pub span-words : (ws : List ℕ) (n a b : ℕ) → a ≤ b → b ≤ n → ones (bitAt ws) a + spanOnes (stripOf ws n) a b ≡ ones (bitAt ws) b
-span-words ws n a b la lb =
-    let before : (i : ℕ) → i ≤ n → rank (stripOf ws n) 1 i ≡ ones (bitAt ws) i =
-    (λ i l. strip-rank ws n 1 i l ∙ rank-ones (bitAt ws) i (bitAt-le ws)) in
-    omega (arith, before a (omega arith), before b lb, span-rank (stripOf ws n) a b (strip-le ws n) la (omega (arith, strip-length ws n)))
-
--- a count of them is at most any bound on the span's end
-pub span-counted : (ws : List ℕ) (a b e m : ℕ) → b ≤ m → ones (bitAt ws) a + e ≡ ones (bitAt ws) b → (e ≤ m) × (ones (bitAt ws) a + e ≡ ones (bitAt ws) b)
-span-counted ws a b e m l h = (omega (arith, ones-le (bitAt ws) b (bitAt-le ws)), h)

@@ -11,15 +11,16 @@ use lib.ListN.{length}
 use lib.IntN.{ℤ, pos, negsuc, natAbs, _-ℤ_}
 use lib.Signed.{_≤ℤ_, _<ℤ_}
 use Rattle.words.specs.declared.handle.Handle.{Handle}
-use Rattle.words.specs.Strip.{cell, stripOf, rankOf, rank, select}
+use Rattle.words.specs.Strip.{cell, stripOf, rankOf, rank, select, spanOnes}
 use Rattle.words.specs.Refusals.{judge, unless, value, found, Small}
 use Rattle.words.specs.Handles.{mostBits}
 use Rattle.words.proofs.SearchLaws.{rank-le}
 use Rattle.words.proofs.SmallLaws.{small-unless, small-least}
 use Rattle.words.proofs.StripLaws.{strip-le}
-use Rattle.pairs.specs.Calls.{pairLines, pairWithinTable, pairSpanTable, joinedStrip, pairRankTold, pairSelectTold, spanOnes, SpannedTold, spanned, unspanned, codedSpan, Within, SmallSpan, pairSpanTold}
+use Rattle.words.proofs.SpanLaws.{span-le}
+use Rattle.pairs.specs.Calls.{pairLines, pairWithinTable, pairSpanTable, joinedStrip, pairRankTold, pairSelectTold, SpannedTold, spanned, unspanned, codedSpan, Within, SmallSpan, pairSpanTold}
 use Rattle.pairs.proofs.CheckLaws.{checked-pair, checked-within, checked-span}
-use Rattle.pairs.proofs.JoinLaws.{joined-length, span-le}
+use Rattle.pairs.proofs.JoinLaws.{joined-length}
 use Rattle.pairs.proofs.IntLaws.{difference-within}
 
 -- a count

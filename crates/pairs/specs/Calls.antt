@@ -7,8 +7,7 @@ use lib.Dec.{eqb}
 use lib.IntN.{ℤ, pos, negℤ, _-ℤ_}
 use lib.Signed.{_≤ℤ_}
 use Rattle.words.specs.declared.handle.Handle.{Handle}
-use Rattle.words.specs.Bits.{ones}
-use Rattle.words.specs.Strip.{cell, stripOf, rank, select}
+use Rattle.words.specs.Strip.{stripOf, rank, select, spanOnes}
 use Rattle.words.specs.Refusals.{numberOf, Line, _⇒_, judge, unless, Told, value, refused, found}
 use Rattle.words.specs.Handles.{mostBits, untaken, stripLines}
 use Rattle.words.specs.Calls.{withinLine, spanLine}
@@ -46,10 +45,6 @@ pairRankTold r first ws second vs i =
 abbrev pub pairSelectTold : (ℕ → ℕ → ℕ) → Handle → List ℕ → Handle → List ℕ → ℕ → Told
 pairSelectTold r first ws second vs k =
     unless (judge (pairLines first (length ws) second (length vs))) refused (found (select (joinedStrip r first ws second vs) 1 k))
-
--- the ones of a strip in positions a to b - 1
-abbrev pub spanOnes : List ℕ → ℕ → ℕ → ℕ
-spanOnes s a b = ones (λ p. cell s (a + p)) (b - a)
 
 -- what a span tells: an integer, or the number of a refusal
 pub data SpannedTold : Type 0 where

@@ -6,7 +6,6 @@ ghost use Rattle.pairs.specs.Calls.{spannedOf, codedSpan, equalTable, pa
 use super::rule::Rule;
 use super::scan::joined_ones;
 use super::scan::joined_place;
-use super::scan::span_ones;
 use words::Answer;
 use words::Handle;
 use words::Refusal;
@@ -14,6 +13,7 @@ use words::UNTAKEN;
 use words::Verdict;
 use words::check_strip;
 use words::number;
+use words::span_ones;
 
 // What a span answers: a signed number, or its refusal.
 pub enum Spanned {

@@ -17,3 +17,4 @@ pub mod ScanLaws
 pub mod CheckLaws
 pub mod StripLaws
 pub mod SmallLaws
+pub mod SpanLaws

@@ -1,5 +1,5 @@
 -- The strip, and count, find, next and prior over it, by their standard names. Assumes nothing.
-use Prim.Native.Nat.{ℕ, zero, suc, min, _≤_}
+use Prim.Native.Nat.{ℕ, zero, suc, min, _+_, _-_, _≤_}
 use mathlib.Core.Path.{_≡_}
 use mathlib.Core.Bool.{Bool, cond, _&&_}
 use mathlib.Core.List.{List}
@@ -74,3 +74,7 @@ successor s v i = successorOf (cell s) (length s) v i
 
 abbrev pub predecessor : List ℕ → ℕ → ℕ → Option ℕ
 predecessor s v i = predecessorOf (cell s) v (min i (length s))
+
+-- the ones of a strip in positions a to b - 1
+abbrev pub spanOnes : List ℕ → ℕ → ℕ → ℕ
+spanOnes s a b = ones (λ p. cell s (a + p)) (b - a)

@@ -7,6 +7,7 @@ mod lanes;
 mod refusal;
 mod scan;
 mod select;
+mod span;
 mod strip;
 mod table;
 
@@ -40,5 +41,6 @@ pub use handle::check_strip;
 pub use refusal::Verdict;
 pub use scan::first_from;
 pub use select::select_in_word;
+pub use span::span_ones;
 pub use strip::check_below;
 pub use strip::check_value;

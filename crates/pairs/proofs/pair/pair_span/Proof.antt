@@ -8,12 +8,12 @@ use lib.IntN.{pos, _-ℤ_}
 use mir.Syntax.{w64}
 use mir.Val.{SFits, toZ, ofZ}
 use borrow.Author.Needs.{needs}
-use Rattle.words.specs.Strip.{stripOf}
+use Rattle.words.specs.Strip.{stripOf, spanOnes}
 use Rattle.words.specs.Handles.{mostBits}
 use Rattle.words.proofs.CheckLaws.{judged-pass, unless-refused, unless-passed}
-use Rattle.pairs.specs.Calls.{pairSpanTable, spanOnes, spanned, unspanned}
+use Rattle.words.proofs.SpanLaws.{span-words}
+use Rattle.pairs.specs.Calls.{pairSpanTable, spanned, unspanned}
 use Rattle.pairs.proofs.CheckLaws.{CheckedPair, checked-span}
-use Rattle.pairs.proofs.JoinLaws.{span-words}
 use Rattle.pairs.proofs.IntLaws.{held-difference}
 use Rattle.pairs.proofs.pair.pair_span.Statement.{statement}
 use Rattle.pairs.proofs.pair.pair_span.Tie as tie

@@ -1,14 +1,14 @@
--- `pairs::scan::words_ones` meets its contract. The invariant: `sum` is the ones from word `from` to word j - 1. Assumes nothing.
+-- `words::span::words_ones` meets its contract. The invariant: `sum` is the ones from word `from` to word j - 1. Assumes nothing.
 use mathlib.Core.Path.{_≡_, ap, _∙_}
 use Prim.Native.Nat.{_+_, _-_, _*_, _≤_}
 use native.Mathlib.Nat.{le-refl}
 use native.Mathlib.Omega.{arith}
 use borrow.Author.Needs.{needs}
 use Rattle.words.specs.Bits.{bitAt, ones}
 use Rattle.words.proofs.Sums.{ones-le}
 use Rattle.words.proofs.WordLaws.{bitAt-le, word-ones}
-use Rattle.pairs.proofs.scan.words_ones.Statement.{statement}
-use Rattle.pairs.proofs.scan.words_ones.Tie as tie
+use Rattle.words.proofs.span.words_ones.Statement.{statement}
+use Rattle.words.proofs.span.words_ones.Tie as tie
 
 abbrev Inv-loop : tie.InvT-loop
 Inv-loop words from to sum₀ j₀ sum j = (j ≤ to) × (ones (bitAt words) (64 * from) + sum ≡ ones (bitAt words) (64 * j))

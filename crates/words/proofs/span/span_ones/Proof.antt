@@ -1,18 +1,18 @@
--- `pairs::scan::span_ones` meets its contract: the ones before each end, by the word that it lies in. Assumes nothing.
+-- `words::span::span_ones` meets its contract: the ones before each end, by the word that it lies in. Assumes nothing.
 use mathlib.Core.Path.{_≡_, ap, _∙_}
 use Prim.Native.Nat.{ℕ, _+_, _-_, _*_, _/_, _%_, _≤_}
 use native.Mathlib.Nat.{add-zero, le-refl}
 use native.Mathlib.Omega.{arith}
 use lib.ListN.{getD}
 use borrow.Author.Needs.{needs}
 use Rattle.words.specs.Bits.{bit, bitAt, ones}
 use Rattle.words.specs.Handles.{mostBits}
 use Rattle.words.proofs.Sums.{sum-mono, ones-le}
 use Rattle.words.proofs.BitLaws.{masked-is}
 use Rattle.words.proofs.WordLaws.{bitAt-le, ones-before}
-use Rattle.pairs.proofs.JoinLaws.{span-counted}
-use Rattle.pairs.proofs.scan.span_ones.Statement.{statement}
-use Rattle.pairs.proofs.scan.span_ones.Tie as tie
+use Rattle.words.proofs.SpanLaws.{span-counted}
+use Rattle.words.proofs.span.span_ones.Statement.{statement}
+use Rattle.words.proofs.span.span_ones.Tie as tie
 
 returns : tie.Need-returns
 returns c =
