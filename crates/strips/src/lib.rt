@@ -1,4 +1,5 @@
-// What libstrips.a exports: the seventeen calls, those that compare two strips and the waiting calls for C, one function each, and the queries of sizes and rows.
+// What libstrips.a exports for C, one function each: the seventeen calls, those that compare two strips, the waiting calls and the burst call; the queries of sizes
+// and rows.
 mod images;
 mod pair;
 mod record;
@@ -29,6 +30,7 @@ pub use record::strip_rank;
 pub use record::strip_select;
 pub use record::strip_truncate;
 pub use record::strip_verify;
+pub use strip::strip_burst;
 pub use strip::strip_counter_count;
 pub use strip::strip_get;
 pub use strip::strip_predecessor;

@@ -1,9 +1,11 @@
 // The calls on words alone, and how many counters a capacity needs. A refusal comes as 2^32 plus its number.
 ghost use mathlib.Core.Path.{_≡_};
-ghost use Rattle.words.specs.Refusals.{coded as codedOf};
+ghost use Rattle.words.specs.Refusals.{coded as codedOf, CodedAs};
 ghost use Rattle.words.specs.Handles.{handle};
 ghost use Rattle.words.specs.Calls.{getTold, successorTold, predecessorTold};
 ghost use Rattle.counters.specs.Calls.{countersTold};
+ghost use Rattle.bursts.specs.Calls.{Burst};
+use bursts::burst;
 use counters::counters_needed;
 use words::Handle;
 use words::coded;
@@ -52,6 +54,19 @@ pub extern "C" fn strip_predecessor(
         words,
         v,
         i as usize,
+    ))
+}
+
+// burst(w, m): the start of a window of w strokes that holds at least m misfires.
+#[no_mangle]
+pub extern "C" fn strip_burst(capacity: u64, length: u64, words: &[u64], w: u64, m: u64) -> u64
+    ensures { λ r. ⌜ CodedAs (Burst (handle capacity length) (now (words .entry)) w m) r ⌝ }
+{
+    coded(burst(
+        Handle::new(capacity as usize, length as usize),
+        words,
+        w as usize,
+        m as usize,
     ))
 }
 

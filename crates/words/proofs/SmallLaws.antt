@@ -9,7 +9,7 @@ use lib.ListN.{length}
 use lib.Dec.{leb, eqb}
 use Rattle.words.specs.declared.handle.Handle.{Handle}
 use Rattle.words.specs.Strip.{cell, stripOf, least, greatest}
-use Rattle.words.specs.Refusals.{judge, unless, Told, value, refused, found, coded, CodedAs, Small}
+use Rattle.words.specs.Refusals.{Line, judge, unless, Judged, Told, value, refused, found, coded, CodedAs, Small}
 use Rattle.words.specs.Handles.{untaken}
 use Rattle.words.specs.Calls.{belowTable, valueTable, getTold, successorTold, predecessorTold}
 use Rattle.words.proofs.WordLaws.{bitAt-le}
@@ -53,6 +53,14 @@ module _ (P : Told → Type 0) (small : (t : Told) → P t → Small t) (r : ℕ
 pub small-unless : (v : Option ℕ) (t : Told) → (v ≡ none → Small t) → Small (unless v refused t)
 small-unless none t h = h refl
 small-unless (some n) t h = tt
+
+-- the refusal that a table gives, or small where the answer is right
+pub small-judged : (ls : List Line) (Right : Told → Type 0) (t : Told) → Judged ls refused Right t → (judge ls ≡ none → Right t → Small t) → Small t
+small-judged ls Right t j h = go (judge ls) refl
+  where
+    go : (o : Option ℕ) → judge ls ≡ o → Small t
+    go (some n) e = subst Small (sym (j .early n e)) tt
+    go none e = h e (j .late e)
 
 -- the smallest position below n that passes a test
 pub small-least : (t : ℕ → Bool) (n : ℕ) → n < 2 ^ 32 → Small (found (least t n))

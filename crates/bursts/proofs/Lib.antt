@@ -1,0 +1,3 @@
+mod WindowLaws
+mod BoundLaws
+pub mod BurstLaws

@@ -1,0 +1,246 @@
+-- Windows over a list of words: the positions that follow a window, the ones that leave and enter, and starts that are ruled out. Assumes nothing.
+use mathlib.Core.Path.{_≡_, refl, sym, ap, ap₂, subst, _∙_}
+use mathlib.Core.List.{List}
+use mathlib.Core.Logic.{_⊎_, inl, inr}
+use Prim.Native.Nat.{ℕ, _+_, _-_, _*_, _/_, _%_, _^_, max, _≤_, _<_}
+use native.Mathlib.Omega.{arith}
+use lib.ListN.{getD}
+use lib.Bits.{bitOr}
+use Rattle.words.specs.Bits.{bit, bitAt, ones}
+use Rattle.words.proofs.Sums.{lt-or, sum-mono, sum-split, sum-ext, ones-le, part-ones}
+use Rattle.words.proofs.BitLaws.{bit-shr, bit-mod, bit-high, bit-shl-at, bit-shl-below, bit-or}
+use Rattle.words.proofs.WordLaws.{word-bit, bitAt-le}
+use Rattle.bursts.specs.Working.{Holds, Reaches, NoneIn, FirstIn, FirstBelow, FirstStart, Following, runOnes}
+
+-- what holds below n and of n
+pub below-more : (P : ℕ → Type 0) (n : ℕ) → ((s : ℕ) → s < n → P s) → P n → (s : ℕ) → s < n + 1 → P s
+below-more P n h x s l = go (lt-or s n)
+  where
+    go : (s < n) ⊎ (n ≤ s) → P s
+    go (inl q) = h s q
+    go (inr q) = let e : n ≡ s = omega arith in subst P e x
+
+-- ---- the bits that follow a bit of a word
+-- as two shifts make them
+pub following-is : (low high u : ℕ) → low < 2 ^ 64 → u < 64 → Following low high u (bitOr (low / 2 ^ 1 / 2 ^ u) ((high * 2 ^ (63 - u)) % 2 ^ 64))
+following-is low high u hl hu =
+    record {
+      inLow = (λ p l. joined p (omega arith) ∙ omega (arith, ap (bit low) (at p), down p l));
+      inHigh = (λ p l h. joined p l ∙ omega (arith, gone p h, up p l h));
+    }
+  where
+    at : (p : ℕ) → 1 + (u + p) ≡ u + 1 + p
+    at p = omega arith
+
+    joined : (p : ℕ) → p < 64
+        → bit (bitOr (low / 2 ^ 1 / 2 ^ u) ((high * 2 ^ (63 - u)) % 2 ^ 64)) p ≡ max (bit low (1 + (u + p))) (bit (high * 2 ^ (63 - u)) p)
+    joined p l =
+        bit-or (low / 2 ^ 1 / 2 ^ u) ((high * 2 ^ (63 - u)) % 2 ^ 64) p
+        ∙ ap₂ max (bit-shr (low / 2 ^ 1) u p ∙ bit-shr low 1 (u + p)) (bit-mod (high * 2 ^ (63 - u)) 64 p l)
+
+    -- the next word's bits stand above
+    down : (p : ℕ) → u + 1 + p < 64 → bit (high * 2 ^ (63 - u)) p ≡ 0
+    down p l = bit-shl-below high (63 - u) p (omega arith)
+
+    -- no bit of the word is left there
+    gone : (p : ℕ) → 64 ≤ u + 1 + p → bit low (1 + (u + p)) ≡ 0
+    gone p h = bit-high low 64 (1 + (u + p)) hl (omega arith)
+
+    up : (p : ℕ) → p < 64 → 64 ≤ u + 1 + p → bit (high * 2 ^ (63 - u)) p ≡ bit high (u + 1 + p - 64)
+    up p l h =
+        let e : 63 - u + (u + 1 + p - 64) ≡ p = omega arith in
+        ap (bit (high * 2 ^ (63 - u))) (sym e) ∙ bit-shl-at high (63 - u) (u + 1 + p - 64)
+
+-- of the word j that holds the last position of a window from position a on: the positions past the window
+module _ (ws : List ℕ) (a w j u high r : ℕ) (e : 64 * j + u + 1 ≡ a + w) (f : Following (getD ws j 0) high u r) where
+  pub past-in-word : (p : ℕ) → a + w + p < 64 * (j + 1) → bit r p ≡ bitAt ws (a + w + p)
+  past-in-word p l =
+      let at : 64 * j + (u + 1 + p) ≡ a + w + p = omega arith in
+      f .inLow p (omega arith) ∙ sym (word-bit ws j (u + 1 + p) (omega arith)) ∙ ap (bitAt ws) at
+
+  pub past-window : u < 64 → high ≡ getD ws (j + 1) 0 → (p : ℕ) → p < 64 → bit r p ≡ bitAt ws (a + w + p)
+  past-window lu eh p l = go (lt-or (a + w + p) (64 * (j + 1)))
+    where
+      go : (a + w + p < 64 * (j + 1)) ⊎ (64 * (j + 1) ≤ a + w + p) → bit r p ≡ bitAt ws (a + w + p)
+      go (inl h) = past-in-word p h
+      go (inr h) =
+          let at : 64 * (j + 1) + (u + 1 + p - 64) ≡ a + w + p = omega arith in
+          f .inHigh p l (omega arith)
+          ∙ ap (λ (x : ℕ). bit x (u + 1 + p - 64)) eh
+          ∙ sym (word-bit ws (j + 1) (u + 1 + p - 64) (omega arith))
+          ∙ ap (bitAt ws) at
+
+-- ---- the ones of runs of 64 positions
+-- with them those before the next run
+pub run-next : (ws : List ℕ) (a i : ℕ) → ones (bitAt ws) (a + 64 * i) + runOnes ws a i ≡ ones (bitAt ws) (a + 64 * (i + 1))
+run-next ws a i =
+    let e : a + 64 * i + 64 ≡ a + 64 * (i + 1) = omega arith in
+    sym (sum-split (bitAt ws) (a + 64 * i) 64) ∙ ap (ones (bitAt ws)) e
+
+-- the ones of a word whose bits are the run's
+pub run-word : (ws : List ℕ) (a i x v : ℕ) → ((p : ℕ) → p < 64 → bit x p ≡ bitAt ws (a + 64 * i + p)) → v ≡ ones (bit x) 64 → v ≡ runOnes ws a i
+run-word ws a i x v bits e = e ∙ sum-ext (bit x) (λ p. bitAt ws (a + 64 * i + p)) 64 bits
+
+-- ---- starts that are ruled out
+-- all windows that start from a to b - 1 lie in positions with too few ones
+pub none-short : (ws : List ℕ) (w m a b : ℕ) → ones (bitAt ws) (b + w) < ones (bitAt ws) a + m → NoneIn ws w m a b
+none-short ws w m a b h s la lb =
+    let e : s + w ≤ b + w = omega arith in
+    omega (arith, sum-mono (bitAt ws) la, sum-mono (bitAt ws) e)
+
+pub none-join : (ws : List ℕ) (w m a b c : ℕ) → NoneIn ws w m a b → NoneIn ws w m b c → NoneIn ws w m a c
+none-join ws w m a b c f g s la lc = go (lt-or s b)
+  where
+    go : (s < b) ⊎ (b ≤ s) → ones (bitAt ws) (s + w) < ones (bitAt ws) s + m
+    go (inl l) = f s la l
+    go (inr l) = g s l lc
+
+pub none-empty : (ws : List ℕ) (w m a b : ℕ) → b ≤ a → NoneIn ws w m a b
+none-empty ws w m a b h s la lb = absurd (omega arith)
+
+-- the first window, by the ones before its end
+pub holds-first : (ws : List ℕ) (w c : ℕ) → ones (bitAt ws) 0 + c ≡ ones (bitAt ws) w → Holds ws w 0 c
+holds-first ws w c h = let e : w ≡ 0 + w = omega arith in h ∙ ap (ones (bitAt ws)) e
+
+-- no window holds more ones than it has positions
+pub holds-le : (ws : List ℕ) (w a c : ℕ) → Holds ws w a c → c ≤ w
+holds-le ws w a c h =
+    omega (arith, h, sum-split (bitAt ws) a w, ones-le (λ p. bitAt ws (a + p)) w (λ p. bitAt-le ws (a + p)))
+
+-- no start in a word serves where the first window's ones and all that enter are too few
+pub bound-none : (f g : ℕ → ℕ) (c m : ℕ) → c + ones g 64 < m → FirstStart f g c m 64 64
+bound-none f g c m h =
+    record {
+      within = omega arith;
+      none = (λ d l. let k : d ≤ 64 = omega arith in omega (arith, sum-mono g k));
+      hit = (λ l. absurd (omega arith));
+    }
+
+-- ---- windows that start in one word
+-- that of position a holds c ones; the bits of x are the positions from a on, the first v bits of e those past the window
+module _ (ws : List ℕ) (w a c x e v : ℕ) (holds : Holds ws w a c) (xs : (p : ℕ) → p < 64 → bit x p ≡ bitAt ws (a + p))
+    (es : (p : ℕ) → p < v → bit e p ≡ bitAt ws (a + w + p)) where
+  -- the ones that leave, and those that enter
+  pub left : (d : ℕ) → d ≤ 64 → ones (bitAt ws) (a + d) ≡ ones (bitAt ws) a + ones (bit x) d
+  left d l = part-ones (bitAt ws) (bit x) a 64 d xs l
+
+  pub entered : (d : ℕ) → d ≤ v → ones (bitAt ws) (a + d + w) ≡ ones (bitAt ws) a + c + ones (bit e) d
+  entered d l =
+      let at : a + w + d ≡ a + d + w = omega arith in
+      omega (arith, ap (ones (bitAt ws)) at, part-ones (bitAt ws) (bit e) (a + w) v d es l, holds)
+
+  -- the starts that were tried
+  module _ (m k r : ℕ) (lk : k ≤ 64) (lv : k ≤ v + 1) (first : FirstStart (bit x) (bit e) c m k r) where
+    pub tried-none : NoneIn ws w m a (a + r)
+    tried-none s la lb =
+        let at : a + (s - a) ≡ s = omega arith in
+        let l : s - a < r = omega arith in
+        omega (
+          arith,
+          first .none (s - a) l,
+          first .within,
+          ap (ones (bitAt ws)) at,
+          ap (λ (q : ℕ). ones (bitAt ws) (q + w)) at,
+          left (s - a) (omega (arith, first .within)),
+          entered (s - a) (omega (arith, first .within)),
+        )
+
+    pub tried-hit : r < k → Reaches ws w m (a + r)
+    tried-hit l = omega (arith, first .hit l, left r (omega arith), entered r (omega arith))
+
+  -- no more leave than were there
+  pub leaving-le : v ≡ 64 → ones (bit x) 64 ≤ c + ones (bit e) 64
+  leaving-le ev =
+      let l : a + 64 ≤ a + 64 + w = omega arith in
+      omega (arith, left 64 (omega arith), entered 64 (omega arith), sum-mono (bitAt ws) l)
+
+  -- the window of the next word's first position
+  pub holds-next : v ≡ 64 → (b n : ℕ) → b ≡ a + 64 → n + ones (bit x) 64 ≡ c + ones (bit e) 64 → Holds ws w b n
+  holds-next ev b n eb h =
+      omega (arith, left 64 (omega arith), entered 64 (omega arith), ap (ones (bitAt ws)) eb, ap (λ (q : ℕ). ones (bitAt ws) (q + w)) eb)
+
+-- ---- first starts in a part from b to e - 1
+module _ {ws : List ℕ} {w m b e r : ℕ} (first : FirstIn ws w m b e r) where
+  -- none where the end was given
+  pub first-none : e ≤ r → NoneIn ws w m b e
+  first-none l s lb le = first .none s lb (omega arith)
+
+  -- of a whole from a to n - 1, where no start before the part serves
+  pub first-after : (a n : ℕ) → a ≤ b → NoneIn ws w m a b → e ≤ n → (r < n → r < e) → FirstIn ws w m a n r
+  first-after a n la none le l =
+      record {
+        start = omega (arith, first .start);
+        within = omega (arith, first .within);
+        none = none-join ws w m a b r none (first .none);
+        hit = (λ h. first .hit (l h));
+      }
+
+-- ---- a search from the left
+-- no start from a to b - 1 serves, and the window that starts at b holds c ones
+pub record Passed (ws : List ℕ) (w m a b c : ℕ) : Type 0 where
+  pub none : NoneIn ws w m a b
+  pub holds : Holds ws w b c
+
+pub passed-none : (ws : List ℕ) (w m a c : ℕ) → Holds ws w a c → Passed ws w m a a c
+passed-none ws w m a c h = record { none = none-empty ws w m a a (omega arith); holds = h }
+
+-- none serves
+pub passed-done : (ws : List ℕ) (w m a b c : ℕ) → a ≤ b → Passed ws w m a b c → FirstIn ws w m a b b
+passed-done ws w m a b c l p = record { start = l; within = omega arith; none = p .none; hit = (λ h. absurd (omega arith)) }
+
+-- the starts of word j, d the first of them that serves; e holds the positions past the word's first window
+module _ (ws : List ℕ) (w m a j c e d : ℕ) (p : Passed ws w m a (64 * j) c) (es : (q : ℕ) → q < 64 → bit e q ≡ bitAt ws (64 * j + w + q))
+    (first : FirstStart (bit (getD ws j 0)) (bit e) c m 64 d) where
+  xs : (q : ℕ) → q < 64 → bit (getD ws j 0) q ≡ bitAt ws (64 * j + q)
+  xs q l = sym (word-bit ws j q l)
+
+  pub word-leaving : ones (bit (getD ws j 0)) 64 ≤ c + ones (bit e) 64
+  word-leaving = leaving-le ws w (64 * j) c (getD ws j 0) e 64 (p .holds) xs es refl
+
+  pub word-found : (b : ℕ) → a ≤ 64 * j → 64 * (j + 1) ≤ b → d < 64 → FirstIn ws w m a b (64 * j + d)
+  word-found b la lb l =
+      record {
+        start = omega arith;
+        within = omega arith;
+        none = none-join ws w m a (64 * j) (64 * j + d) (p .none) (tried-none ws w (64 * j) c (getD ws j 0) e 64 (p .holds) xs es m 64 d (omega arith) (omega arith) first);
+        hit = (λ h. tried-hit ws w (64 * j) c (getD ws j 0) e 64 (p .holds) xs es m 64 d (omega arith) (omega arith) first l);
+      }
+
+  pub word-passed : (n : ℕ) → 64 ≤ d → n + ones (bit (getD ws j 0)) 64 ≡ c + ones (bit e) 64 → Passed ws w m a (64 * (j + 1)) n
+  word-passed n l h =
+      let tried = tried-none ws w (64 * j) c (getD ws j 0) e 64 (p .holds) xs es m 64 d (omega arith) (omega arith) first in
+      record {
+        none = none-join ws w m a (64 * j) (64 * (j + 1)) (p .none) (λ s la lb. tried s la (omega arith));
+        holds = holds-next ws w (64 * j) c (getD ws j 0) e 64 (p .holds) xs es refl (64 * (j + 1)) n (omega arith) h;
+      }
+
+-- ---- windows that end at or before n
+-- a start that a search over whole words found
+pub below-found : (ws : List ℕ) (n w m b r : ℕ) → 1 ≤ w → b + w ≤ n → FirstIn ws w m 0 b r → r < b → FirstBelow ws n w m r
+below-found ws n w m b r lw lb f l =
+    record { within = omega arith; none = (λ s h e. f .none s (omega arith) h); hit = (λ h. (omega arith, f .hit l)) }
+
+-- a search that found none
+pub below-passed : (ws : List ℕ) (w m b r c : ℕ) → FirstIn ws w m 0 b r → b ≤ r → (b ≤ r → Holds ws w b c) → Passed ws w m 0 b c
+below-passed ws w m b r c f l h = record { none = first-none f l; holds = h l }
+
+-- the last starts: from the first position a of a word to a + k, where the window ends at n; d is the first of them that serves
+module _ (ws : List ℕ) (n w m a k c x e d : ℕ) (en : n ≡ a + w + k) (lw : 1 ≤ w) (lk : k < 64) (p : Passed ws w m 0 a c)
+    (xs : (q : ℕ) → q < 64 → bit x q ≡ bitAt ws (a + q)) (es : (q : ℕ) → q < 64 → a + w + q < n → bit e q ≡ bitAt ws (a + w + q))
+    (first : FirstStart (bit x) (bit e) c m (k + 1) d) where
+  enters : (q : ℕ) → q < k → bit e q ≡ bitAt ws (a + w + q)
+  enters q l = es q (omega arith) (omega arith)
+
+  ruled : NoneIn ws w m 0 (a + d)
+  ruled = none-join ws w m 0 a (a + d) (p .none) (tried-none ws w a c x e k (p .holds) xs enters m (k + 1) d (omega arith) (omega arith) first)
+
+  pub last-found : d ≤ k → FirstBelow ws n w m (a + d)
+  last-found l =
+      record {
+        within = omega arith;
+        none = (λ s h t. ruled s (omega arith) h);
+        hit = (λ h. (omega arith, tried-hit ws w a c x e k (p .holds) xs enters m (k + 1) d (omega arith) (omega arith) first (omega arith)));
+      }
+
+  pub last-none : k < d → FirstBelow ws n w m n
+  last-none l = record { within = omega arith; none = (λ s h t. ruled s (omega arith) (omega arith)); hit = (λ h. absurd (omega arith)) }

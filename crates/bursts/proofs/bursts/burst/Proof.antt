@@ -1,0 +1,64 @@
+-- `bursts::bursts::burst` meets its contract. Assumes nothing.
+use Prim.Native.Nat.{_≤_}
+use native.Mathlib.Omega.{arith}
+use borrow.Author.Needs.{needs}
+use lib.ListN.{length}
+use Rattle.words.specs.Strip.{stripOf}
+use Rattle.words.specs.Refusals.{value, refused}
+use Rattle.words.proofs.CheckLaws.{judged-pass, right-refused, right-passed}
+use Rattle.bursts.specs.Calls.{burstTable, RightBurst}
+use Rattle.bursts.proofs.BurstLaws.{CheckedBurst, checked-burst, burst-room, burst-found, burst-none}
+use Rattle.bursts.proofs.bursts.burst.Statement.{statement}
+use Rattle.bursts.proofs.bursts.burst.Tie as tie
+
+check-burst-requires : tie.Need-check-burst-requires
+check-burst-requires c κs = search needs
+
+enum-known-r : tie.Need-enum-known-r
+enum-known-r c = search needs
+
+enum-told : tie.Need-enum-told
+enum-told c = search needs
+
+-- what the checks leave
+known : (c : tie.After-enum-told) → let a = c .before .before .before .before .args in CheckedBurst (a .h) (length (a .words .now)) (a .w) (a .m)
+known c =
+    let a = c .before .before .before .before .args in
+    checked-burst (a .h) (length (a .words .now)) (a .w) (a .m)
+    (judged-pass (burstTable (a .h) (length (a .words .now)) (a .w) (a .m)) (c .before .before .check-burst .result) (c .before .before .check-burst .ensures)
+    (c .enum-told .given .1))
+
+first-window-requires : tie.Need-first-window-requires
+first-window-requires c κs =
+    let a = c .before .before .before .before .args in
+    let k = known c in
+    let r = burst-room (a .h) (length (a .words .now)) (a .w) (a .m) k in
+    (k .some, k .wide, omega (arith, k .most, k .wide), r .0, r .1)
+
+returns : tie.Need-returns
+returns c =
+    let a = c .before .before .before .before .before .args in
+    let v = c .before .before .before .check-burst in
+    right-refused (burstTable (a .h) (length (a .words .now)) (a .w) (a .m)) (v .result) refused (RightBurst (stripOf (a .words .now) (a .h .length)) (a .w) (a .m))
+    (v .ensures) (c .before .r .given .0 .0) (c .before .r .given .1)
+
+returns-2 : tie.Need-returns-2
+returns-2 c =
+    let a = c .before .before .before .before .before .before .args in
+    let v = c .before .before .before .before .check-burst in
+    let f = c .before .first-window in
+    right-passed (burstTable (a .h) (length (a .words .now)) (a .w) (a .m)) (v .result) refused (RightBurst (stripOf (a .words .now) (a .h .length)) (a .w) (a .m))
+    (v .ensures) (value (f .result)) (c .before .before .enum-told .given .1)
+    (burst-found (a .words .now) (a .h .length) (a .w) (a .m) (f .result) (f .ensures) (c .if1 .taken))
+
+returns-3 : tie.Need-returns-3
+returns-3 c =
+    let a = c .before .before .before .before .before .before .args in
+    let v = c .before .before .before .before .check-burst in
+    let f = c .before .first-window in
+    right-passed (burstTable (a .h) (length (a .words .now)) (a .w) (a .m)) (v .result) refused (RightBurst (stripOf (a .words .now) (a .h .length)) (a .w) (a .m))
+    (v .ensures) (refused 6) (c .before .before .enum-told .given .1)
+    (burst-none (a .words .now) (a .h .length) (a .w) (a .m) (f .result) (known (c .before .before) .some) (f .ensures) (c .if1 .left))
+
+pub burst-spec : {M : Type 1} → statement M
+burst-spec = tie.close (tie.spec check-burst-requires enum-known-r enum-told first-window-requires returns returns-2 returns-3)
