@@ -1,3 +1,2 @@
 mod WindowLaws
-mod BoundLaws
 pub mod BurstLaws

@@ -10,7 +10,7 @@ use Rattle.words.specs.Bits.{bit, bitAt, ones}
 use Rattle.words.proofs.Sums.{lt-or, sum-mono, sum-split, sum-ext, ones-le, part-ones}
 use Rattle.words.proofs.BitLaws.{bit-shr, bit-mod, bit-high, bit-shl-at, bit-shl-below, bit-or}
 use Rattle.words.proofs.WordLaws.{word-bit, bitAt-le}
-use Rattle.bursts.specs.Working.{Holds, Reaches, NoneIn, FirstIn, FirstBelow, FirstStart, Following, runOnes}
+use Rattle.bursts.specs.Working.{Holds, Reaches, NoneIn, FirstIn, Searched, FirstBelow, FirstStart, Following, runOnes, RunOnes}
 
 -- what holds below n and of n
 pub below-more : (P : ℕ → Type 0) (n : ℕ) → ((s : ℕ) → s < n → P s) → P n → (s : ℕ) → s < n + 1 → P s
@@ -70,16 +70,43 @@ module _ (ws : List ℕ) (a w j u high r : ℕ) (e : 64 * j + u + 1 ≡ a + w) (
           ∙ sym (word-bit ws (j + 1) (u + 1 + p - 64) (omega arith))
           ∙ ap (bitAt ws) at
 
--- ---- the ones of runs of 64 positions
--- with them those before the next run
-pub run-next : (ws : List ℕ) (a i : ℕ) → ones (bitAt ws) (a + 64 * i) + runOnes ws a i ≡ ones (bitAt ws) (a + 64 * (i + 1))
-run-next ws a i =
-    let e : a + 64 * i + 64 ≡ a + 64 * (i + 1) = omega arith in
-    sym (sum-split (bitAt ws) (a + 64 * i) 64) ∙ ap (ones (bitAt ws)) e
+-- ---- the ones that windows hold
+-- no more than they have positions
+pub holds-le : (ws : List ℕ) (w a c : ℕ) → Holds ws w a c → c ≤ w
+holds-le ws w a c h =
+    omega (arith, h, sum-split (bitAt ws) a w, ones-le (λ p. bitAt ws (a + p)) w (λ p. bitAt-le ws (a + p)))
 
--- the ones of a word whose bits are the run's
+-- the first window, by the ones before its end
+pub holds-first : (ws : List ℕ) (w c : ℕ) → ones (bitAt ws) 0 + c ≡ ones (bitAt ws) w → Holds ws w 0 c
+holds-first ws w c h = let e : w ≡ 0 + w = omega arith in h ∙ ap (ones (bitAt ws)) e
+
+-- 64 positions that are the bits of a word
+pub holds-bits : (ws : List ℕ) (a x v : ℕ) → ((p : ℕ) → p < 64 → bit x p ≡ bitAt ws (a + p)) → v ≡ ones (bit x) 64 → Holds ws 64 a v
+holds-bits ws a x v bits e = omega (arith, e, part-ones (bitAt ws) (bit x) a 64 64 bits (omega arith))
+
+pub holds-word : (ws : List ℕ) (j v : ℕ) → v ≡ ones (bit (getD ws j 0)) 64 → Holds ws 64 (64 * j) v
+holds-word ws j v e = holds-bits ws (64 * j) (getD ws j 0) v (λ p l. sym (word-bit ws j p l)) e
+
+-- the ones of a word whose bits are a run of 64 positions, and the runs counted
 pub run-word : (ws : List ℕ) (a i x v : ℕ) → ((p : ℕ) → p < 64 → bit x p ≡ bitAt ws (a + 64 * i + p)) → v ≡ ones (bit x) 64 → v ≡ runOnes ws a i
 run-word ws a i x v bits e = e ∙ sum-ext (bit x) (λ p. bitAt ws (a + 64 * i + p)) 64 bits
+
+pub holds-run : (ws : List ℕ) (a b i : ℕ) (xs : List ℕ) → b ≡ a + 64 * i → i < 8 → RunOnes ws a xs → Holds ws 64 b (getD xs i 0)
+holds-run ws a b i xs e l r = omega (arith, r .each i l, sum-split (bitAt ws) (a + 64 * i) 64, ap (ones (bitAt ws)) e, ap (λ (q : ℕ). ones (bitAt ws) (q + 64)) e)
+
+-- a window and the 64 positions past it, which hold v
+pub holds-wider : (ws : List ℕ) (w a c v : ℕ) → Holds ws w a c → Holds ws 64 (a + w) v → Holds ws (w + 64) a (c + v)
+holds-wider ws w a c v h g = let e : a + w + 64 ≡ a + (w + 64) = omega arith in omega (arith, h, g, ap (ones (bitAt ws)) e)
+
+-- such a window, its first 64 positions, which hold x, and the window that starts past these
+module _ (ws : List ℕ) (w a b c x : ℕ) (eb : a + 64 ≡ b) (wide : Holds ws (w + 64) a c) (first : Holds ws 64 a x) where
+  pub leaving-le : x ≤ c
+  leaving-le = let l : a + 64 ≤ a + (w + 64) = omega arith in omega (arith, wide, first, sum-mono (bitAt ws) l)
+
+  pub holds-moved : Holds ws w b (c - x)
+  holds-moved =
+      let e : a + (w + 64) ≡ b + w = omega arith in
+      omega (arith, wide, first, leaving-le, ap (ones (bitAt ws)) eb, ap (ones (bitAt ws)) e)
 
 -- ---- starts that are ruled out
 -- all windows that start from a to b - 1 lie in positions with too few ones
@@ -97,24 +124,6 @@ none-join ws w m a b c f g s la lc = go (lt-or s b)
 
 pub none-empty : (ws : List ℕ) (w m a b : ℕ) → b ≤ a → NoneIn ws w m a b
 none-empty ws w m a b h s la lb = absurd (omega arith)
-
--- the first window, by the ones before its end
-pub holds-first : (ws : List ℕ) (w c : ℕ) → ones (bitAt ws) 0 + c ≡ ones (bitAt ws) w → Holds ws w 0 c
-holds-first ws w c h = let e : w ≡ 0 + w = omega arith in h ∙ ap (ones (bitAt ws)) e
-
--- no window holds more ones than it has positions
-pub holds-le : (ws : List ℕ) (w a c : ℕ) → Holds ws w a c → c ≤ w
-holds-le ws w a c h =
-    omega (arith, h, sum-split (bitAt ws) a w, ones-le (λ p. bitAt ws (a + p)) w (λ p. bitAt-le ws (a + p)))
-
--- no start in a word serves where the first window's ones and all that enter are too few
-pub bound-none : (f g : ℕ → ℕ) (c m : ℕ) → c + ones g 64 < m → FirstStart f g c m 64 64
-bound-none f g c m h =
-    record {
-      within = omega arith;
-      none = (λ d l. let k : d ≤ 64 = omega arith in omega (arith, sum-mono g k));
-      hit = (λ l. absurd (omega arith));
-    }
 
 -- ---- windows that start in one word
 -- that of position a holds c ones; the bits of x are the positions from a on, the first v bits of e those past the window
@@ -148,71 +157,82 @@ module _ (ws : List ℕ) (w a c x e v : ℕ) (holds : Holds ws w a c) (xs : (p :
     pub tried-hit : r < k → Reaches ws w m (a + r)
     tried-hit l = omega (arith, first .hit l, left r (omega arith), entered r (omega arith))
 
-  -- no more leave than were there
-  pub leaving-le : v ≡ 64 → ones (bit x) 64 ≤ c + ones (bit e) 64
-  leaving-le ev =
-      let l : a + 64 ≤ a + 64 + w = omega arith in
-      omega (arith, left 64 (omega arith), entered 64 (omega arith), sum-mono (bitAt ws) l)
-
-  -- the window of the next word's first position
-  pub holds-next : v ≡ 64 → (b n : ℕ) → b ≡ a + 64 → n + ones (bit x) 64 ≡ c + ones (bit e) 64 → Holds ws w b n
-  holds-next ev b n eb h =
-      omega (arith, left 64 (omega arith), entered 64 (omega arith), ap (ones (bitAt ws)) eb, ap (λ (q : ℕ). ones (bitAt ws) (q + w)) eb)
-
--- ---- first starts in a part from b to e - 1
-module _ {ws : List ℕ} {w m b e r : ℕ} (first : FirstIn ws w m b e r) where
-  -- none where the end was given
-  pub first-none : e ≤ r → NoneIn ws w m b e
-  first-none l s lb le = first .none s lb (omega arith)
-
-  -- of a whole from a to n - 1, where no start before the part serves
-  pub first-after : (a n : ℕ) → a ≤ b → NoneIn ws w m a b → e ≤ n → (r < n → r < e) → FirstIn ws w m a n r
-  first-after a n la none le l =
+-- ---- the starts of a word, from its first position a to that of the next, b
+module _ (ws : List ℕ) (w m a b : ℕ) (eb : a + 64 ≡ b) where
+  -- the window of a and the 64 positions past it hold too few
+  pub word-short : (most : ℕ) → Holds ws (w + 64) a most → most < m → FirstIn ws w m a b b
+  word-short most h l =
+      let e : a + (w + 64) ≡ b + w = omega arith in
       record {
-        start = omega (arith, first .start);
+        start = omega arith;
+        within = omega arith;
+        none = none-short ws w m a b (omega (arith, h, ap (ones (bitAt ws)) e));
+        hit = (λ k. absurd (omega arith));
+      }
+
+  -- all 64 tried
+  pub word-tried : (c x e d : ℕ) → Holds ws w a c → ((p : ℕ) → p < 64 → bit x p ≡ bitAt ws (a + p)) → ((p : ℕ) → p < 64 → bit e p ≡ bitAt ws (a + w + p))
+      → FirstStart (bit x) (bit e) c m 64 d → FirstIn ws w m a b (a + d)
+  word-tried c x e d h xs es first =
+      record {
+        start = omega arith;
         within = omega (arith, first .within);
-        none = none-join ws w m a b r none (first .none);
-        hit = (λ h. first .hit (l h));
+        none = tried-none ws w a c x e 64 h xs es m 64 d (omega arith) (omega arith) first;
+        hit = (λ l. tried-hit ws w a c x e 64 h xs es m 64 d (omega arith) (omega arith) first (omega arith));
       }
 
 -- ---- a search from the left
--- no start from a to b - 1 serves, and the window that starts at b holds c ones
+-- the starts from a to b - 1 are passed: none serves, and the window that starts at b holds c
 pub record Passed (ws : List ℕ) (w m a b c : ℕ) : Type 0 where
   pub none : NoneIn ws w m a b
   pub holds : Holds ws w b c
 
-pub passed-none : (ws : List ℕ) (w m a c : ℕ) → Holds ws w a c → Passed ws w m a a c
-passed-none ws w m a c h = record { none = none-empty ws w m a a (omega arith); holds = h }
+pub passed-none : (ws : List ℕ) (w m a b c : ℕ) → a ≡ b → Holds ws w a c → Passed ws w m a b c
+passed-none ws w m a b c e h = record { none = none-empty ws w m a b (omega arith); holds = subst (λ (q : ℕ). Holds ws w q c) e h }
 
--- none serves
-pub passed-done : (ws : List ℕ) (w m a b c : ℕ) → a ≤ b → Passed ws w m a b c → FirstIn ws w m a b b
-passed-done ws w m a b c l p = record { start = l; within = omega arith; none = p .none; hit = (λ h. absurd (omega arith)) }
-
--- the starts of word j, d the first of them that serves; e holds the positions past the word's first window
-module _ (ws : List ℕ) (w m a j c e d : ℕ) (p : Passed ws w m a (64 * j) c) (es : (q : ℕ) → q < 64 → bit e q ≡ bitAt ws (64 * j + w + q))
-    (first : FirstStart (bit (getD ws j 0)) (bit e) c m 64 d) where
-  xs : (q : ℕ) → q < 64 → bit (getD ws j 0) q ≡ bitAt ws (64 * j + q)
-  xs q l = sym (word-bit ws j q l)
-
-  pub word-leaving : ones (bit (getD ws j 0)) 64 ≤ c + ones (bit e) 64
-  word-leaving = leaving-le ws w (64 * j) c (getD ws j 0) e 64 (p .holds) xs es refl
-
-  pub word-found : (b : ℕ) → a ≤ 64 * j → 64 * (j + 1) ≤ b → d < 64 → FirstIn ws w m a b (64 * j + d)
-  word-found b la lb l =
+module _ {ws : List ℕ} {w m a k c : ℕ} (p : Passed ws w m a k c) where
+  -- a first start past these is the first of all
+  first-after : (b n r : ℕ) → FirstIn ws w m k b r → a ≤ k → b ≤ n → (r < n → r < b) → FirstIn ws w m a n r
+  first-after b n r f la lb l =
       record {
-        start = omega arith;
-        within = omega arith;
-        none = none-join ws w m a (64 * j) (64 * j + d) (p .none) (tried-none ws w (64 * j) c (getD ws j 0) e 64 (p .holds) xs es m 64 d (omega arith) (omega arith) first);
-        hit = (λ h. tried-hit ws w (64 * j) c (getD ws j 0) e 64 (p .holds) xs es m 64 d (omega arith) (omega arith) first l);
+        start = omega (arith, f .start);
+        within = omega (arith, f .within);
+        none = none-join ws w m a k r (p .none) (f .none);
+        hit = (λ h. f .hit (l h));
       }
 
-  pub word-passed : (n : ℕ) → 64 ≤ d → n + ones (bit (getD ws j 0)) 64 ≡ c + ones (bit e) 64 → Passed ws w m a (64 * (j + 1)) n
-  word-passed n l h =
-      let tried = tried-none ws w (64 * j) c (getD ws j 0) e 64 (p .holds) xs es m 64 d (omega arith) (omega arith) first in
+  -- none of the 64 starts from k on serves: the window moves on by the 64 positions past it, which hold v, and its first 64, which hold x
+  module _ (b v x : ℕ) (eb : k + 64 ≡ b) (enters : Holds ws 64 (k + w) v) (leaves : Holds ws 64 k x) where
+    pub passed-le : x ≤ c + v
+    passed-le = leaving-le ws w k b (c + v) x eb (holds-wider ws w k c v (p .holds) enters) leaves
+
+    pub passed-more : (e r : ℕ) → FirstIn ws w m k e r → b ≤ r → Passed ws w m a b (c + v - x)
+    passed-more e r f l =
+        record {
+          none = none-join ws w m a k b (p .none) (λ s la lb. f .none s la (omega arith));
+          holds = holds-moved ws w k b (c + v) x eb (holds-wider ws w k c v (p .holds) enters) leaves;
+        }
+
+  -- a start was found before b
+  pub searched-found : (b n r count : ℕ) → FirstIn ws w m k b r → r < b → a ≤ k → b ≤ n → Searched ws w m a n r count
+  searched-found b n r count f l la lb = record { first = first-after b n r f la lb (λ h. l); holds = (λ h. absurd (omega arith)) }
+
+  -- none was: k is the end
+  pub searched-none : (n : ℕ) → k ≡ n → a ≤ k → Searched ws w m a n n c
+  searched-none n e la =
       record {
-        none = none-join ws w m a (64 * j) (64 * (j + 1)) (p .none) (λ s la lb. tried s la (omega arith));
-        holds = holds-next ws w (64 * j) c (getD ws j 0) e 64 (p .holds) xs es refl (64 * (j + 1)) n (omega arith) h;
+        first = record { start = omega arith; within = omega arith; none = subst (NoneIn ws w m a) e (p .none); hit = (λ h. absurd (omega arith)) };
+        holds = (λ h. subst (λ (q : ℕ). Holds ws w q c) e (p .holds));
       }
+
+  -- after these a search up to b, which found none
+  pub passed-over : (b r count : ℕ) → Searched ws w m k b r count → b ≤ r → Passed ws w m a b count
+  passed-over b r count f l =
+      record { none = none-join ws w m a k b (p .none) (λ s la lb. f .first .none s la (omega arith)); holds = f .holds l }
+
+  -- or to the end
+  pub searched-after : (n r count : ℕ) → Searched ws w m k n r count → a ≤ k → Searched ws w m a n r count
+  searched-after n r count f la = record { first = first-after n n r (f .first) la (omega arith) (λ h. h); holds = f .holds }
 
 -- ---- windows that end at or before n
 -- a start that a search over whole words found
@@ -221,8 +241,8 @@ below-found ws n w m b r lw lb f l =
     record { within = omega arith; none = (λ s h e. f .none s (omega arith) h); hit = (λ h. (omega arith, f .hit l)) }
 
 -- a search that found none
-pub below-passed : (ws : List ℕ) (w m b r c : ℕ) → FirstIn ws w m 0 b r → b ≤ r → (b ≤ r → Holds ws w b c) → Passed ws w m 0 b c
-below-passed ws w m b r c f l h = record { none = first-none f l; holds = h l }
+pub below-passed : (ws : List ℕ) (w m b r c : ℕ) → Searched ws w m 0 b r c → b ≤ r → Passed ws w m 0 b c
+below-passed ws w m b r c f l = record { none = (λ s la lb. f .first .none s la (omega arith)); holds = f .holds l }
 
 -- the last starts: from the first position a of a word to a + k, where the window ends at n; d is the first of them that serves
 module _ (ws : List ℕ) (n w m a k c x e d : ℕ) (en : n ≡ a + w + k) (lw : 1 ≤ w) (lk : k < 64) (p : Passed ws w m 0 a c)

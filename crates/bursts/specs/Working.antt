@@ -25,6 +25,11 @@ pub record FirstIn (ws : List ℕ) (w m a b r : ℕ) : Type 0 where
   pub none : NoneIn ws w m a r
   pub hit : r < b → Reaches ws w m r
 
+-- what a search over starts from a to b - 1 gives: that start, and where there is none the ones of the window that starts at b
+pub record Searched (ws : List ℕ) (w m a b start count : ℕ) : Type 0 where
+  pub first : FirstIn ws w m a b start
+  pub holds : b ≤ start → Holds ws w b count
+
 -- r is the smallest such start of a window that ends at or before n, or n where there is none
 pub record FirstBelow (ws : List ℕ) (n w m r : ℕ) : Type 0 where
   pub within : r ≤ n

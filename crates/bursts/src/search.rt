@@ -1,16 +1,16 @@
-// The search for a window of w positions that holds at least m ones, from the left: eight words at a time, word by word where one of these may hold its start,
-// and start by start in a word that may.
+// The search for a window of w positions that holds at least m ones, from the left: eight words at a time, and start by start in a word that may hold its start.
 ghost use mathlib.Core.Path.{_≡_};
 ghost use Prim.Native.Nat.{ℕ, _+_, _*_, _<_, _≤_};
 ghost use lib.ListN.{length};
 ghost use Rattle.words.specs.Bits.{bit, bitAt};
 ghost use Rattle.words.specs.Handles.{mostBits, wordsOf};
 ghost use Rattle.bursts.specs.Calls.{mostWidth};
-ghost use Rattle.bursts.specs.Working.{Holds, FirstIn, FirstBelow};
-use super::window::block_bound;
+ghost use Rattle.bursts.specs.Working.{Holds, Searched, FirstBelow};
 use super::window::entering;
+use super::window::entering_ones;
 use super::window::first_start;
 use super::window::following;
+use super::window::leaving_ones;
 use super::window::start_in_word;
 use words::ones_of;
 use words::span_ones;
@@ -24,23 +24,17 @@ pub struct Search {
 // The windows that start in the words from word `from` to word `to` - 1, word by word, where that of word `from` holds c ones.
 fn search_words(words: &[u64], w: usize, m: usize, from: usize, to: usize, c: usize) -> Search
     requires { ⌜ (1 ≤ w) × (w ≤ mostWidth) × (m ≤ mostWidth) × (from ≤ to) × (to ≤ wordsOf mostBits) × (64 * to + w ≤ 64 * length (now words)) × Holds (now words) w (64 * from) c ⌝ }
-    ensures { λ r. ⌜ FirstIn (now (words .entry)) w m (64 * from) (64 * to) (r .start)
-        × ((64 * to ≤ r .start → Holds (now (words .entry)) w (64 * to) (r .count))) ⌝ }
+    ensures { λ r. ⌜ Searched (now (words .entry)) w m (64 * from) (64 * to) (r .start) (r .count) ⌝ }
 {
     let mut count = c;
     let mut j = from;
     while j < to {
-        let x = words[j];
-        let e = entering(words, w, j);
-        let most = count + ones_of(e);
-        let d = start_in_word(x, e, count, most, m);
-        if d < 64 {
-            return Search {
-                start: 64 * j + d,
-                count,
-            };
+        let most = count + ones_of(entering(words, w, j));
+        let start = start_in_word(words, w, m, j, count, most);
+        if start < 64 * (j + 1) {
+            return Search { start, count };
         }
-        count = most - ones_of(x);
+        count = most - ones_of(words[j]);
         j += 1;
     }
     Search {
@@ -49,23 +43,41 @@ fn search_words(words: &[u64], w: usize, m: usize, from: usize, to: usize, c: us
     }
 }
 
+// The windows that start in the eight words from word j on. The ones that leave and enter with each word are counted first, all together.
+fn search_eight(words: &[u64], w: usize, m: usize, j: usize, c: usize) -> Search
+    requires { ⌜ (1 ≤ w) × (w ≤ mostWidth) × (m ≤ mostWidth) × (j + 8 ≤ wordsOf mostBits) × (64 * (j + 8) + w ≤ 64 * length (now words)) × Holds (now words) w (64 * j) c ⌝ }
+    ensures { λ r. ⌜ Searched (now (words .entry)) w m (64 * j) (64 * (j + 8)) (r .start) (r .count) ⌝ }
+{
+    let leaves = leaving_ones(words, j);
+    let enters = entering_ones(words, w, j);
+    let mut count = c;
+    for i in 0..8 {
+        let most = count + enters[i];
+        let start = start_in_word(words, w, m, j + i, count, most);
+        if start < 64 * (j + i + 1) {
+            return Search { start, count };
+        }
+        count = most - leaves[i];
+    }
+    Search {
+        start: 64 * (j + 8),
+        count,
+    }
+}
+
 // The windows that start in the first `to` words, eight words at a time, where the first window holds c ones.
-fn search_blocks(words: &[u64], w: usize, m: usize, to: usize, c: usize) -> Search
+fn search_all(words: &[u64], w: usize, m: usize, to: usize, c: usize) -> Search
     requires { ⌜ (1 ≤ w) × (w ≤ mostWidth) × (m ≤ mostWidth) × (to ≤ wordsOf mostBits) × (64 * to + w ≤ 64 * length (now words)) × Holds (now words) w 0 c ⌝ }
-    ensures { λ r. ⌜ FirstIn (now (words .entry)) w m 0 (64 * to) (r .start)
-        × ((64 * to ≤ r .start → Holds (now (words .entry)) w (64 * to) (r .count))) ⌝ }
+    ensures { λ r. ⌜ Searched (now (words .entry)) w m 0 (64 * to) (r .start) (r .count) ⌝ }
 {
     let mut count = c;
     let mut j: usize = 0;
     while 8 <= to - j {
-        let bound = block_bound(words, w, m, j, count);
-        if bound.reached {
-            let found = search_words(words, w, m, j, j + 8, count);
-            if found.start < 64 * (j + 8) {
-                return found;
-            }
+        let found = search_eight(words, w, m, j, count);
+        if found.start < 64 * (j + 8) {
+            return found;
         }
-        count = bound.count;
+        count = found.count;
         j += 8;
     }
     search_words(words, w, m, j, to, count)
@@ -93,7 +105,7 @@ pub fn first_window(words: &[u64], n: usize, w: usize, m: usize) -> usize
     }
     let to = (n - w) / 64;
     let c = span_ones(words, 0, w);
-    let found = search_blocks(words, w, m, to, c);
+    let found = search_all(words, w, m, to, c);
     if found.start < 64 * to {
         return found.start;
     }

@@ -6,7 +6,7 @@ use borrow.Author.Needs.{needs}
 use lib.ListN.{getD}
 use Rattle.words.specs.Bits.{bit, bitAt}
 use Rattle.words.proofs.WordLaws.{word-bit}
-use Rattle.bursts.proofs.WindowLaws.{Passed, holds-first, holds-le, below-found, below-passed, last-found, last-none}
+use Rattle.bursts.proofs.WindowLaws.{holds-first, holds-le, Passed, below-found, below-passed, last-found, last-none}
 use Rattle.bursts.proofs.search.first_window.Statement.{statement}
 use Rattle.bursts.proofs.search.first_window.Tie as tie
 
@@ -16,8 +16,8 @@ returns c = search needs
 span-ones-requires : tie.Need-span-ones-requires
 span-ones-requires c κs = search needs
 
-search-blocks-requires : tie.Need-search-blocks-requires
-search-blocks-requires c κs =
+search-all-requires : tie.Need-search-all-requires
+search-all-requires c κs =
     let a = c .before .before .before .args in
     (omega arith, omega arith, omega arith, omega arith, omega arith, holds-first (a .words .now) (a .w) (c .span-ones .result) (c .span-ones .ensures .1))
 
@@ -27,8 +27,8 @@ mul-if2 c = search needs
 returns-2 : tie.Need-returns-2
 returns-2 c =
     let a = c .before .before .before .before .before .before .args in
-    let f = c .before .before .search-blocks in
-    below-found (a .words .now) (a .n) (a .w) (a .m) (64 * ((a .n - a .w) / 64)) (f .result .start) (omega arith) (omega arith) (f .ensures .0) (c .if2 .taken)
+    let f = c .before .before .search-all in
+    below-found (a .words .now) (a .n) (a .w) (a .m) (64 * ((a .n - a .w) / 64)) (f .result .start) (omega arith) (omega arith) (f .ensures .first) (c .if2 .taken)
 
 entering-below-requires : tie.Need-entering-below-requires
 entering-below-requires c κs = search needs
@@ -45,17 +45,17 @@ add-first-start c = search needs
 -- no start of a whole word serves
 passed : (c : tie.Else2)
     → let a = c .before .before .before .before .before .before .args in
-    Passed (a .words .now) (a .w) (a .m) 0 (64 * ((a .n - a .w) / 64)) (c .before .before .search-blocks .result .count)
+    Passed (a .words .now) (a .w) (a .m) 0 (64 * ((a .n - a .w) / 64)) (c .before .before .search-all .result .count)
 passed c =
     let a = c .before .before .before .before .before .before .args in
-    let f = c .before .before .search-blocks in
-    below-passed (a .words .now) (a .w) (a .m) (64 * ((a .n - a .w) / 64)) (f .result .start) (f .result .count) (f .ensures .0) (c .if2 .left) (f .ensures .1)
+    let f = c .before .before .search-all in
+    below-passed (a .words .now) (a .w) (a .m) (64 * ((a .n - a .w) / 64)) (f .result .start) (f .result .count) (f .ensures) (c .if2 .left)
 
 first-start-requires : tie.Need-first-start-requires
 first-start-requires c κs =
     let a = c .before .before .before .before .before .before .before .before .args in
     let p = passed (c .before .before) in
-    let n = c .before .before .before .before .search-blocks .result .count in
+    let n = c .before .before .before .before .search-all .result .count in
     (omega arith, omega (arith, holds-le (a .words .now) (a .w) (64 * ((a .n - a .w) / 64)) n (p .holds)), omega arith)
 
 mul-result : tie.Need-mul-result
@@ -70,7 +70,7 @@ returns-3 c =
     let to : ℕ = (a .n - a .w) / 64 in
     let e = c .before .before .before .entering-below in
     let d = c .before .first-start in
-    last-found (a .words .now) (a .n) (a .w) (a .m) (64 * to) ((a .n - a .w) % 64) (c .before .before .before .before .before .before .search-blocks .result .count)
+    last-found (a .words .now) (a .n) (a .w) (a .m) (64 * to) ((a .n - a .w) % 64) (c .before .before .before .before .before .before .search-all .result .count)
     (getD (a .words .now) to 0) (e .result) (d .result) (omega arith) (omega arith) (omega arith) (passed (c .before .before .before .before)) (λ q l. sym (word-bit (a .words .now) to q l)) (e .ensures)
     (d .ensures) (c .if3 .taken)
 
@@ -80,7 +80,7 @@ returns-4 c =
     let to : ℕ = (a .n - a .w) / 64 in
     let e = c .before .before .before .entering-below in
     let d = c .before .first-start in
-    last-none (a .words .now) (a .n) (a .w) (a .m) (64 * to) ((a .n - a .w) % 64) (c .before .before .before .before .before .before .search-blocks .result .count)
+    last-none (a .words .now) (a .n) (a .w) (a .m) (64 * to) ((a .n - a .w) % 64) (c .before .before .before .before .before .before .search-all .result .count)
     (getD (a .words .now) to 0) (e .result) (d .result) (omega arith) (omega arith) (omega arith) (passed (c .before .before .before .before)) (λ q l. sym (word-bit (a .words .now) to q l)) (e .ensures)
     (d .ensures) (c .if3 .left)
 
@@ -90,7 +90,7 @@ first-window-spec =
     (tie.spec
     returns
     span-ones-requires
-    search-blocks-requires
+    search-all-requires
     mul-if2
     returns-2
     entering-below-requires
