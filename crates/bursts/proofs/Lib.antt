@@ -1,2 +1,3 @@
 mod WindowLaws
+mod BoundLaws
 pub mod BurstLaws

@@ -5,7 +5,7 @@ ghost use lib.ListN.{length};
 ghost use Rattle.words.specs.Bits.{bit, bitAt};
 ghost use Rattle.words.specs.Handles.{mostBits, wordsOf};
 ghost use Rattle.bursts.specs.Calls.{mostWidth};
-ghost use Rattle.bursts.specs.Working.{Holds, Searched, FirstBelow};
+ghost use Rattle.bursts.specs.Working.{Holds, RunOnes, Searched, FirstBelow};
 use super::window::entering;
 use super::window::entering_ones;
 use super::window::first_start;
@@ -43,13 +43,20 @@ fn search_words(words: &[u64], w: usize, m: usize, from: usize, to: usize, c: us
     }
 }
 
-// The windows that start in the eight words from word j on. The ones that leave and enter with each word are counted first, all together.
-fn search_eight(words: &[u64], w: usize, m: usize, j: usize, c: usize) -> Search
-    requires { ⌜ (1 ≤ w) × (w ≤ mostWidth) × (m ≤ mostWidth) × (j + 8 ≤ wordsOf mostBits) × (64 * (j + 8) + w ≤ 64 * length (now words)) × Holds (now words) w (64 * j) c ⌝ }
+// The windows that start in the eight words from word j on, word by word, where the ones that leave and enter with each word are counted.
+fn try_eight(
+    words: &[u64],
+    w: usize,
+    m: usize,
+    j: usize,
+    c: usize,
+    leaves: [usize; 8],
+    enters: [usize; 8],
+) -> Search
+    requires { ⌜ (1 ≤ w) × (w ≤ mostWidth) × (m ≤ mostWidth) × (j + 8 ≤ wordsOf mostBits) × (64 * (j + 8) + w ≤ 64 * length (now words)) × Holds (now words) w (64 * j) c
+        × RunOnes (now words) (64 * j) leaves × RunOnes (now words) (64 * j + w) enters ⌝ }
     ensures { λ r. ⌜ Searched (now (words .entry)) w m (64 * j) (64 * (j + 8)) (r .start) (r .count) ⌝ }
 {
-    let leaves = leaving_ones(words, j);
-    let enters = entering_ones(words, w, j);
     let mut count = c;
     for i in 0..8 {
         let most = count + enters[i];
@@ -62,6 +69,32 @@ fn search_eight(words: &[u64], w: usize, m: usize, j: usize, c: usize) -> Search
     Search {
         start: 64 * (j + 8),
         count,
+    }
+}
+
+// The windows that start in the eight words from word j on. All eight bounds are judged first, with no branch between them.
+fn search_eight(words: &[u64], w: usize, m: usize, j: usize, c: usize) -> Search
+    requires { ⌜ (1 ≤ w) × (w ≤ mostWidth) × (m ≤ mostWidth) × (j + 8 ≤ wordsOf mostBits) × (64 * (j + 8) + w ≤ 64 * length (now words)) × Holds (now words) w (64 * j) c ⌝ }
+    ensures { λ r. ⌜ Searched (now (words .entry)) w m (64 * j) (64 * (j + 8)) (r .start) (r .count) ⌝ }
+{
+    let leaves = leaving_ones(words, j);
+    let enters = entering_ones(words, w, j);
+    let mut have = c;
+    let mut need = m;
+    let mut reached = false;
+    for i in 0..8 {
+        have += enters[i];
+        if need <= have {
+            reached = true;
+        }
+        need += leaves[i];
+    }
+    if reached {
+        return try_eight(words, w, m, j, c, leaves, enters);
+    }
+    Search {
+        start: 64 * (j + 8),
+        count: have + m - need,
     }
 }
 

@@ -1,17 +1,19 @@
--- `bursts::search::search_eight` meets its contract. The invariant: no start before word j + i serves, and what the window there holds. Assumes nothing.
-use Prim.Native.Nat.{ℕ, _+_, _-_, _*_, _≤_}
+-- `bursts::search::search_eight` meets its contract. The invariant: what is held and needed past i words, and no start in them unless a bound was reached.
+-- Assumes nothing.
+use mathlib.Core.Path.{refl}
+use mathlib.Core.Logic.{⊎-elim, inl, inr}
+use Prim.Native.Nat.{_+_, _-_, _*_, _≤_}
 use native.Mathlib.Omega.{arith}
-use lib.ListN.{getD}
-use Rattle.bursts.specs.Working.{Holds}
-use Rattle.bursts.proofs.WindowLaws.{holds-le, holds-run, holds-wider, Passed, passed-none, passed-le, passed-more, searched-found, searched-none}
+use Rattle.bursts.proofs.WindowLaws.{searched-none}
+use Rattle.bursts.proofs.BoundLaws.{Bounded, bounded-none, have-le, need-le, bounded-more, bounded-le, bounded-done}
 use Rattle.bursts.proofs.search.search_eight.Statement.{statement}
 use Rattle.bursts.proofs.search.search_eight.Tie as tie
 
 abbrev Inv-loop : tie.InvT-loop
-Inv-loop words w m j c leaves enters count₀ i₀ count i = (i ≤ 8) × Passed words w m (64 * j) (64 * (j + i)) count
+Inv-loop words w m j c leaves enters have₀ need₀ reached₀ i₀ have need reached i = (i ≤ 8) × Bounded words w m (64 * j) have need reached i
 
 abbrev μ-loop : tie.MeasureT-loop
-μ-loop words w m j c leaves enters count₀ i₀ count i = 8 - i
+μ-loop words w m j c leaves enters have₀ need₀ reached₀ i₀ have need reached i = 8 - i
 
 leaving-ones-requires : tie.Need-leaving-ones-requires Inv-loop μ-loop
 leaving-ones-requires c κs = omega arith
@@ -21,92 +23,32 @@ entering-ones-requires c κs = omega arith
 
 loop-holds : tie.Need-loop-holds Inv-loop μ-loop
 loop-holds c =
-    let s = c .before .before .before in
-    let a = s .args in
-    (omega arith, passed-none (a .words .now) (a .w) (a .m) (64 * a .j) (64 * (a .j + 0)) (a .c) (omega arith) (s .pre .5))
+    let a = c .before .before .before .args in
+    (omega arith, bounded-none (a .words .now) (a .w) (a .m) (64 * a .j) (a .c) (c .before .before .before .pre .5))
 
-mul-most : tie.Need-mul-most Inv-loop μ-loop
-mul-most c = omega arith
+mul-have : tie.Need-mul-have Inv-loop μ-loop
+mul-have c = omega arith
 
-array-read-most : tie.Need-array-read-most Inv-loop μ-loop
-array-read-most c = omega arith
+array-read-have : tie.Need-array-read-have Inv-loop μ-loop
+array-read-have c = omega arith
 
--- the ones that enter with word j + i, and those that leave
-enters : (c : tie.In-loop Inv-loop μ-loop)
-    → let s = c .before in
-    let a = s .before .before .before .before .args in
-    Holds (a .words .now) 64 (64 * (a .j + s .loop .i) + a .w) (getD (s .before .entering-ones .result) (s .loop .i) 0)
-enters c =
-    let s = c .before in
-    let a = s .before .before .before .before .args in
-    holds-run (a .words .now) (64 * a .j + a .w) (64 * (a .j + s .loop .i) + a .w) (s .loop .i) (s .before .entering-ones .result) (omega arith) (c .loop-test .taken)
-    (s .before .entering-ones .ensures)
+add-have : tie.Need-add-have Inv-loop μ-loop
+add-have c =
+    omega (arith, have-le (c .before .loop .inv .1) (c .before .before .before .leaving-ones .ensures) (c .before .before .entering-ones .ensures) (c .loop-test .taken))
 
-leaves : (c : tie.In-loop Inv-loop μ-loop)
-    → let s = c .before in
-    let a = s .before .before .before .before .args in
-    Holds (a .words .now) 64 (64 * (a .j + s .loop .i)) (getD (s .before .before .leaving-ones .result) (s .loop .i) 0)
-leaves c =
-    let s = c .before in
-    let a = s .before .before .before .before .args in
-    holds-run (a .words .now) (64 * a .j) (64 * (a .j + s .loop .i)) (s .loop .i) (s .before .before .leaving-ones .result) (omega arith) (c .loop-test .taken)
-    (s .before .before .leaving-ones .ensures)
+mul-need : tie.Need-mul-need Inv-loop μ-loop
+mul-need c = omega arith
 
-add-most : tie.Need-add-most Inv-loop μ-loop
-add-most c =
-    let s = c .before in
-    let a = s .before .before .before .before .args in
+array-read-need : tie.Need-array-read-need Inv-loop μ-loop
+array-read-need c = omega arith
+
+add-need : tie.Need-add-need Inv-loop μ-loop
+add-need c =
     omega (
       arith,
-      holds-le (a .words .now) (a .w) (64 * (a .j + s .loop .i)) (s .loop .count) (s .loop .inv .1 .holds),
-      holds-le (a .words .now) 64 (64 * (a .j + s .loop .i) + a .w) (getD (s .before .entering-ones .result) (s .loop .i) 0) (enters c),
+      need-le (c .before .before .loop .inv .1) (c .before .before .before .before .leaving-ones .ensures) (c .before .before .before .entering-ones .ensures)
+          (c .before .loop-test .taken),
     )
-
-add-start-in-word : tie.Need-add-start-in-word Inv-loop μ-loop
-add-start-in-word c = omega arith
-
-start-in-word-requires : tie.Need-start-in-word-requires Inv-loop μ-loop
-start-in-word-requires c κs =
-    let s = c .before in
-    let a = s .before .before .before .before .args in
-    let h = s .loop .inv .1 .holds in (
-      omega arith,
-      omega arith,
-      omega arith,
-      omega arith,
-      omega arith,
-      h,
-      holds-wider (a .words .now) (a .w) (64 * (a .j + s .loop .i)) (s .loop .count) (getD (s .before .entering-ones .result) (s .loop .i) 0) h (enters c),
-    )
-
-add-if1 : tie.Need-add-if1 Inv-loop μ-loop
-add-if1 c = omega arith
-
-add-if1-2 : tie.Need-add-if1-2 Inv-loop μ-loop
-add-if1-2 c = omega arith
-
-mul-if1 : tie.Need-mul-if1 Inv-loop μ-loop
-mul-if1 c = omega arith
-
-returns : tie.Need-returns Inv-loop μ-loop
-returns c =
-    let s = c .before .before .before in
-    let a = s .before .before .before .before .args in
-    let f = c .before .start-in-word in
-    searched-found (s .loop .inv .1) (64 * (a .j + s .loop .i + 1)) (64 * (a .j + 8)) (f .result) _ (f .ensures) (c .if1 .taken) (omega arith) (omega arith)
-
-mul-count : tie.Need-mul-count Inv-loop μ-loop
-mul-count c = omega arith
-
-array-read-count : tie.Need-array-read-count Inv-loop μ-loop
-array-read-count c = omega arith
-
-sub-count : tie.Need-sub-count Inv-loop μ-loop
-sub-count c =
-    let t = c .before .before in
-    let s = t .before in
-    let a = s .before .before .before .before .args in
-    passed-le (s .loop .inv .1) (64 * (a .j + (s .loop .i + 1))) _ _ (omega arith) (enters t) (leaves t)
 
 add-i : tie.Need-add-i Inv-loop μ-loop
 add-i c = omega arith
@@ -115,26 +57,44 @@ loop-less : tie.Need-loop-less Inv-loop μ-loop
 loop-less c = omega arith
 
 loop-again : tie.Need-loop-again Inv-loop μ-loop
-loop-again c =
-    let t = c .before .before in
-    let s = t .before in
-    let a = s .before .before .before .before .args in
-    let f = c .before .start-in-word in (
+loop-again c = (
+  omega arith,
+  bounded-more (c .before .before .loop .inv .1) (c .before .before .before .before .leaving-ones .ensures) (c .before .before .before .entering-ones .ensures)
+      (c .before .loop-test .taken) (c .if1 .reached) (⊎-elim (λ w. inl (w .1)) (λ w. inr (w .0 .left, w .1)) (c .if1 .came)),
+)
+
+try-eight-requires : tie.Need-try-eight-requires Inv-loop μ-loop
+try-eight-requires c κs =
+    let s = c .before .before .before .before .before .before in (
       omega arith,
-      passed-more (s .loop .inv .1) (64 * (a .j + (s .loop .i + 1))) _ _ (omega arith) (enters t) (leaves t) (64 * (a .j + s .loop .i + 1)) (f .result) (f .ensures)
-          (omega (arith, c .if1 .left)),
+      omega arith,
+      omega arith,
+      omega arith,
+      omega arith,
+      s .pre .5,
+      c .before .before .before .before .leaving-ones .ensures,
+      c .before .before .before .entering-ones .ensures,
     )
 
-add-t21 : tie.Need-add-t21 Inv-loop μ-loop
-add-t21 c = omega arith
+returns : tie.Need-returns Inv-loop μ-loop
+returns c = c .try-eight .ensures
 
-mul-t22 : tie.Need-mul-t22 Inv-loop μ-loop
-mul-t22 c = omega arith
+add-t23 : tie.Need-add-t23 Inv-loop μ-loop
+add-t23 c = omega arith
+
+mul-t24 : tie.Need-mul-t24 Inv-loop μ-loop
+mul-t24 c = omega arith
+
+add-t25 : tie.Need-add-t25 Inv-loop μ-loop
+add-t25 c = omega (arith, bounded-le (c .before .before .loop .inv .1) .0)
+
+sub-t26 : tie.Need-sub-t26 Inv-loop μ-loop
+sub-t26 c = bounded-le (c .before .before .loop .inv .1) .1
 
 returns-2 : tie.Need-returns-2 Inv-loop μ-loop
 returns-2 c =
-    let a = c .before .before .before .before .before .args in
-    searched-none (c .before .loop .inv .1) (64 * (a .j + 8)) (omega arith) (omega arith)
+    let z = 64 * (c .before .before .before .before .before .before .args .j + 8) in
+    searched-none (bounded-done (c .before .before .loop .inv .1) z (omega arith) (c .if2 .left)) z refl (omega arith)
 
 pub search-eight-spec : {M : Type 1} → statement M
 search-eight-spec =
@@ -145,21 +105,19 @@ search-eight-spec =
     leaving-ones-requires
     entering-ones-requires
     loop-holds
-    mul-most
-    array-read-most
-    add-most
-    add-start-in-word
-    start-in-word-requires
-    add-if1
-    add-if1-2
-    mul-if1
-    returns
-    mul-count
-    array-read-count
-    sub-count
+    mul-have
+    array-read-have
+    add-have
+    mul-need
+    array-read-need
+    add-need
     add-i
     loop-less
     loop-again
-    add-t21
-    mul-t22
+    try-eight-requires
+    returns
+    add-t23
+    mul-t24
+    add-t25
+    sub-t26
     returns-2)
