@@ -55,6 +55,7 @@ static answer find(uint64_t v, uint64_t k) { return strip_record_select(&strip->
 static answer next(uint64_t v, uint64_t i) { return strip_record_successor(&strip->record, v, i); }
 static answer prior(uint64_t v, uint64_t i) { return strip_record_predecessor(&strip->record, v, i); }
 static answer check(void) { return strip_record_verify(&strip->record); }
+static answer burst(uint64_t w, uint64_t m) { return strip_record_burst(&strip->record, w, m); }
 static answer clear(void) { return strip_answer_of(image_clear(image, sizeof image)); }
 static answer freeze(uint64_t label) { return strip_record_freeze(&strip->record, image, sizeof image, label); }
 static answer inspect(void) { return strip_answer_of(image_inspect(image, sizeof image)); }
@@ -286,6 +287,8 @@ int main(int arguments, char **words)
     ASK(find(1, 99), "the 100th misfire; 6 says: no such stroke");
     SHOW(prior(1, 96000), "the last misfire before stroke 96000");
     SHOW(next(1, 96000), "the first misfire from stroke 96000 on");
+    SHOW(burst(1000, 4), "a start of 1000 strokes with 4 misfires or more");
+    ASK(burst(1000, 40), "with 40 or more: a nozzle; 6 says: there is none");
 
     printf("In harbour the strips are frozen into an image\n");
     SHOW_IMAGE(clear(), "bytes of header, and no row yet");
