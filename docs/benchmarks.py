@@ -24,8 +24,23 @@ PAIRS = (
 )  # fmt: skip
 WAITING = ("waiting count", "waiting find", "waiting find, last", "waiting find, open")
 TWO_STRIPS = PAIRS + WAITING
+# The searches for a burst, by share of ones and name, with how the ones lie: those that pass most words, and those that
+# try the starts in most.
+BURSTS = {
+    ("1/64", "burst, 60 of 1,000"): "at random",
+    ("32/64", "burst, 600 of 1,000"): "at random",
+}
+WORST = {
+    ("32/64", "burst, 501 of 1,000"): "alternating",
+    ("32/64", "burst, 33 of 64"): "alternating",
+    ("32/64", "burst, 32,769 of 65,536"): "alternating",
+    ("20/64", "burst, 33 of 64"): "thinned",
+}
+# The most counts of ones that a search for a burst is to take at 2^24, and its least speed over a sliding count's.
+BURST_COUNTS, BURST_SPEED = 5, 8
 COLUMNS = ("library", "C++", "C++, checked", "scan", "scan, popcnt", "sdsl", "CRoaring")
 PAIR, NOISE, CHECKED = "library / C++", "C++ again / C++", "library / C++, checked"
+COUNTS, SLIDING = "library / count of ones", "sliding count / library"
 # A ratio that differs more than this from the quotient of the two times is marked.
 TENTH = 0.1
 # The table that the page opens with: a name, the calls that it stands for, the columns that their speed is held against.
@@ -45,6 +60,7 @@ SUMMARY = (
     ("pair span", ("pair span",), ()),
     ("waiting count", ("waiting count",), ("two passes",)),
     ("waiting find", WAITING[1:], ()),
+    ("burst", ("burst, 600 of 1,000",), ("count of ones", "sliding count")),
 )
 # The calls that are to be no slower than the C++ version.
 HELD = ("count", "find 1", "find 0", "turn", "add", "run", *PAIRS[:6], *WAITING)
@@ -73,6 +89,7 @@ FUNCTIONS = {
     "pair span": ("strip_pair_span", "pair_span"),
     "waiting count": ("strip_waiting_count", "waiting_count"),
     "waiting find": ("strip_waiting_find", "waiting_find"),
+    "burst": ("strip_burst", "burst_start"),
 }
 
 # The least share of memcpy's speed that freeze is to reach at 2^24, and its name.
@@ -183,6 +200,19 @@ def speeds(of, call, column, mine=None, shares=SHARES, powers=POWERS):
     return [of.time(p, s, call, column) / of.time(p, s, mine or call, "library") for p in powers for s in shares]
 
 
+def burst_aims(of):
+    """The aims of the searches for a burst at 2^24: each with what was reached, whether it is met, and its form."""
+
+    def ratios(cases, pair):
+        return [of.three("ratio", "24", *case, pair)[1] for case in cases]
+
+    return (
+        (f"at most {BURST_COUNTS} counts of ones", ratios(BURSTS, COUNTS), lambda x: x <= BURST_COUNTS, "{:.2f}"),
+        (f"{BURST_SPEED} times the sliding count's speed", ratios(BURSTS, SLIDING), lambda x: x >= BURST_SPEED, "{:.1f}"),
+        ("at worst no slower than the sliding count", ratios(WORST, SLIDING), lambda x: x >= 1, "{:.2f}"),
+    )
+
+
 def aims_of(of, name, calls):
     aims = []
     if set(calls) <= set(HELD):
@@ -195,6 +225,9 @@ def aims_of(of, name, calls):
     if name == "freeze":
         parts = speeds(of, "freeze", "memcpy", powers=("24",))
         aims.append(f"{FREEZE_SHARE} at 2^24: " + verdict(sum(x >= FREEZE_AIM for x in parts), len(parts)))
+    if name == "burst":
+        for aim, parts, met, _ in burst_aims(of):
+            aims.append(f"{aim} at 2^24: " + verdict(sum(map(met, parts)), len(parts)))
     return "; ".join(aims) or "none set"
 
 
@@ -251,6 +284,8 @@ def others_table(of):
         for column in ("scan", "scan, popcnt"):
             row(f"{call}: 1/200 of the {column}", "24", speeds(of, call, column, powers=("24",)), lambda x: x >= 200, "1/{:.0f}")
     row(f"freeze: {FREEZE_SHARE}'s speed", "24", speeds(of, "freeze", "memcpy", powers=("24",)), lambda x: x >= FREEZE_AIM, "{:.2f}")
+    for aim, figures, met, form in burst_aims(of):
+        row(f"burst: {aim}", "24", figures, met, form)
     return table(["aim", "bits", "reached, by ones 1/64, 32/64, 63/64", ""], rows)
 
 
@@ -268,6 +303,22 @@ def two_strips_table(of, calls, others=()):
             rows.append(row)
     head = ["bits", "call", "library", "C++", PAIR, "C++ / C++", "library / C++, -O2"]
     return with_note(table(head + [x for column in others for x in (column, f"library / {column}")], rows))
+
+
+def bursts_table(of):
+    """The searches for a burst, beside C++ and beside counts over the same words."""
+    rows = []
+    for power in POWERS:
+        for (share, call), words in (BURSTS | WORST).items():
+            key = power, share, call
+            if of.three("time", *key, "library") is None:
+                continue
+            times = [duration(of.time(*key, column)) for column in (*COLUMNS[:2], "count of ones", "sliding count")]
+            ratios = [spread(of, key, pair) for pair in (PAIR, NOISE, COUNTS, SLIDING)]
+            window = call.removeprefix("burst, ")
+            rows.append([f"2^{power}", window, f"{share}, {words}", *times[:2], *ratios[:2], times[2], ratios[2], times[3], ratios[3]])
+    head = ["bits", "m of w", "ones", "library", "C++", PAIR, "C++ / C++"]
+    return with_note(table(head + ["count of ones", COUNTS, "sliding count", SLIDING], rows))
 
 
 def freeze_table(of):
@@ -448,7 +499,7 @@ def legend(parts, names, y):
 def ratios_plot(of):
     shapes = (("ring", "20"), ("square", "24"), ("triangle", "27"))
     left, right, top, step = 160, WIDTH - 24, 70, 40
-    calls = CALLS + TWO_STRIPS
+    calls = (*CALLS, *TWO_STRIPS, "burst, 600 of 1,000")
     high = max(of.three("ratio", p, "32/64", call, PAIR)[2] for p in POWERS for call in calls)
     high = max(1.5, math.ceil(10 * high) / 10)
     bottom = top + step * len(calls)
@@ -506,7 +557,7 @@ def main():
         "summary": summary_table, "machine": machine_table, "aims": aims_table, "others": others_table,
         "freeze": freeze_table, "alone": alone_table, "flips": flips_table, "instructions": instructions_table, "memory": memory_table, "stack": stack_table,
         "size": size_table, "word": word_table, "pairs": lambda of: two_strips_table(of, PAIRS),
-        "waiting": lambda of: two_strips_table(of, WAITING, ("two passes",)),
+        "waiting": lambda of: two_strips_table(of, WAITING, ("two passes",)), "bursts": bursts_table,
     }  # fmt: skip
     made = {name: make(of) for name, make in tables.items()}
     made |= {f"2^{power}": calls_table(of, power) for power in POWERS}

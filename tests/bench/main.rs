@@ -3,11 +3,13 @@
 //! hand with the library's checks; a plain scan; sdsl-lite and CRoaring where they are installed; and memcpy beside
 //! freeze; and the calls on two strips, half ones, beside pair.cpp, and those on a strip, half ones, and its waiting
 //! strip, 1/64 marks, beside waiting.cpp. All stand in one run, in alternating rounds. Each measurement asks for fresh
-//! random places, and follows one of the same kind that does not count. Prints lines of tab-separated fields:
+//! random places, and follows one of the same kind that does not count. Bursts are sought in strips of their own, beside
+//! burst.cpp, a count of the ones and a count that slides bit by bit. Prints lines of tab-separated fields:
 //!   time   power  density  call  column  lower quartile, median, upper quartile, in ns a call
 //!   ratio  power  density  call  columns  the same, over the rounds
 //!   bytes  power  density  what  bytes
-//! `main ROUNDS POWER ..` takes other rounds and sizes, and `main pairs ROUNDS POWER ..` the calls on two strips alone.
+//! `main ROUNDS POWER ..` takes other rounds and sizes, and `main pairs ROUNDS POWER ..` the calls on two strips alone;
+//! `main bursts ROUNDS POWER ..` has the bursts, which the others leave out.
 //! `main calls POWER COUNT` only makes COUNT calls of each kind, of the library and by hand, to be counted from outside.
 #[allow(dead_code)]
 #[path = "../src/ffi.rs"]
@@ -16,6 +18,7 @@ mod ffi;
 #[path = "../src/random.rs"]
 mod random;
 
+mod burst;
 mod figures;
 mod other;
 mod pair;
@@ -24,6 +27,7 @@ mod row;
 mod scan;
 mod waiting;
 
+use burst::{Burst, Words, CASES};
 use figures::{quartiles, word};
 use other::{Roaring, Sdsl};
 use pair::{Pair, Rule};
@@ -109,6 +113,8 @@ enum Column {
     Sdsl,
     Roaring,
     Memcpy,
+    Ones,
+    Sliding,
 }
 
 const COLUMNS: [(Column, &str); 10] = [
@@ -124,11 +130,17 @@ const COLUMNS: [(Column, &str); 10] = [
     (Column::Memcpy, "memcpy"),
 ];
 
-const RATIOS: [(Column, Column, &str); 4] = [
+/// The columns of the bursts.
+const BURSTS: [(Column, &str); 5] =
+    [COLUMNS[0], COLUMNS[1], COLUMNS[2], (Column::Ones, "count of ones"), (Column::Sliding, "sliding count")];
+
+const RATIOS: [(Column, Column, &str); 6] = [
     (Column::Library, Column::Hand, "library / C++"),
     (Column::Again, Column::Hand, "C++ again / C++"),
     (Column::Library, Column::Checked, "library / C++, checked"),
     (Column::Library, Column::Passes, "library / two passes"),
+    (Column::Library, Column::Ones, "library / count of ones"),
+    (Column::Sliding, Column::Library, "sliding count / library"),
 ];
 
 /// The finds on two strips that make a figure.
@@ -255,14 +267,13 @@ impl Bench {
             Column::Library => self.library(call, &q, pace),
             Column::Hand | Column::Again => self.hand(call, &q, pace),
             Column::Passes if call == WaitingCount => time(&q, pace, |i| sum(self.waiting.passes(i))),
-            Column::Passes => Vec::new(),
             Column::Checked => self.checked(call, &q, pace),
             Column::Scan => self.scan(call, &q, pace),
             Column::Popcnt => self.popcnt(call, &q, pace),
             Column::Sdsl => self.sdsl(call, &q, pace),
             Column::Roaring => self.roaring(call, &q, pace),
             Column::Memcpy if call == Freeze => time(&q, pace, |_| self.row.copy(&self.words)),
-            Column::Memcpy => Vec::new(),
+            Column::Passes | Column::Memcpy | Column::Ones | Column::Sliding => Vec::new(),
         }
     }
 
@@ -516,36 +527,10 @@ impl Bench {
         }
     }
 
-    /// Rounds of these calls and columns; prints the figures under the calls' names and a note.
+    /// Rounds of these calls and columns, printed with a note.
     fn run(&mut self, calls: &[(Call, &str)], columns: &[(Column, &str)], note: &str, rounds: usize) {
-        let mut figures = vec![vec![Vec::new(); columns.len()]; calls.len()];
-        for number in 0..rounds {
-            for (x, (call, _)) in calls.iter().enumerate() {
-                // now the one goes first, now the other; each after one of its own that does not count
-                for y in 0..columns.len() {
-                    let y = if number % 2 == 0 { y } else { columns.len() - 1 - y };
-                    self.measure(*call, columns[y].0);
-                    figures[x][y].push(self.measure(*call, columns[y].0));
-                }
-            }
-        }
         let at = format!("{}\t{}/64", self.bits.trailing_zeros(), self.share);
-        for (x, (_, name)) in calls.iter().enumerate() {
-            for (y, (_, column)) in columns.iter().enumerate() {
-                if let Some([a, b, c]) = quartiles(figures[x][y].concat()) {
-                    println!("time\t{at}\t{name}{note}\t{column}\t{a:.2}\t{b:.2}\t{c:.2}");
-                }
-            }
-            for (over, under, pair) in RATIOS {
-                let place = |column: Column| columns.iter().position(|x| x.0 == column);
-                let (Some(y), Some(z)) = (place(over), place(under)) else { continue };
-                let medians = |y: usize| figures[x][y].iter().filter_map(|f| Some(quartiles(f.clone())?[1]));
-                let ratios = medians(y).zip(medians(z)).map(|(a, b)| a / b).collect();
-                if let Some([a, b, c]) = quartiles(ratios) {
-                    println!("ratio\t{at}\t{name}{note}\t{pair}\t{a:.3}\t{b:.3}\t{c:.3}");
-                }
-            }
-        }
+        run(&at, calls, columns, note, rounds, |call, column| self.measure(call, column));
     }
 
     /// The calls on two strips.
@@ -554,6 +539,44 @@ impl Bench {
         self.run(&PAIRS, &COLUMNS[..3], "", rounds);
         self.compare_waiting();
         self.run(&WAITING, &COLUMNS[..4], "", rounds);
+    }
+}
+
+/// Rounds of these calls and columns; prints the figures under their place, the calls' names and a note.
+fn run<C: Copy>(
+    at: &str,
+    calls: &[(C, &str)],
+    columns: &[(Column, &str)],
+    note: &str,
+    rounds: usize,
+    mut measure: impl FnMut(C, Column) -> Vec<f64>,
+) {
+    let mut figures = vec![vec![Vec::new(); columns.len()]; calls.len()];
+    for number in 0..rounds {
+        for (x, (call, _)) in calls.iter().enumerate() {
+            // now the one goes first, now the other; each after one of its own that does not count
+            for y in 0..columns.len() {
+                let y = if number % 2 == 0 { y } else { columns.len() - 1 - y };
+                measure(*call, columns[y].0);
+                figures[x][y].push(measure(*call, columns[y].0));
+            }
+        }
+    }
+    for (x, (_, name)) in calls.iter().enumerate() {
+        for (y, (_, column)) in columns.iter().enumerate() {
+            if let Some([a, b, c]) = quartiles(figures[x][y].concat()) {
+                println!("time\t{at}\t{name}{note}\t{column}\t{a:.2}\t{b:.2}\t{c:.2}");
+            }
+        }
+        for (over, under, pair) in RATIOS {
+            let place = |column: Column| columns.iter().position(|x| x.0 == column);
+            let (Some(y), Some(z)) = (place(over), place(under)) else { continue };
+            let medians = |y: usize| figures[x][y].iter().filter_map(|f| Some(quartiles(f.clone())?[1]));
+            let ratios = medians(y).zip(medians(z)).map(|(a, b)| a / b).collect();
+            if let Some([a, b, c]) = quartiles(ratios) {
+                println!("ratio\t{at}\t{name}{note}\t{pair}\t{a:.3}\t{b:.3}\t{c:.3}");
+            }
+        }
     }
 }
 
@@ -593,6 +616,31 @@ fn word_select(rounds: usize) {
     }
 }
 
+/// One measurement of a search for a burst, or of a count in its place.
+fn measure_burst(burst: &Burst, column: Column) -> Vec<f64> {
+    let quick = column == Column::Ones || column != Column::Sliding && matches!(burst.case.words, Words::Random(_));
+    let (least, most) = if quick { (4, 16) } else { (1, 4) };
+    let count = ((1 << 24) / burst.bits).clamp(least, most);
+    let (q, pace) = (vec![burst.case.m; count], Pace { part: 1, waits: false });
+    match column {
+        Column::Library => time(&q, pace, |m| burst.library(m)),
+        Column::Hand | Column::Again => time(&q, pace, |m| burst.hand(m)),
+        Column::Ones => time(&vec![burst.bits; count], pace, |i| burst.ones(i)),
+        Column::Sliding => time(&q, pace, |m| burst.sliding(m)),
+        _ => Vec::new(),
+    }
+}
+
+/// The searches for a burst, and at 2^24 all strips that make them slow.
+fn bursts(power: u32, rounds: usize) {
+    for case in CASES.into_iter().take(if power == 24 { CASES.len() } else { 3 }) {
+        let burst = Burst::new(power, case);
+        burst.compare();
+        let at = format!("{power}\t{}", case.share);
+        run(&at, &[((), case.name)], &BURSTS, "", rounds, |(), column| measure_burst(&burst, column));
+    }
+}
+
 /// As many calls of each kind, for a counter of instructions; those that go over words a hundredth of them.
 fn calls(power: u32, count: usize) {
     let mut bench = Bench::new(power, 32, false, false);
@@ -604,11 +652,15 @@ fn calls(power: u32, count: usize) {
         bench.hand(call, &q, PACE);
         bench.checked(call, &q, PACE);
     }
+    let burst = Burst::new(power, CASES[0]);
+    let q = vec![burst.case.m; count / 100];
+    time(&q, PACE, |m| burst.library(m));
+    time(&q, PACE, |m| burst.hand(m));
 }
 
 fn main() {
     let mut arguments = std::env::args().skip(1).peekable();
-    let mode = arguments.next_if(|x| x == "calls" || x == "pairs").unwrap_or_default();
+    let mode = arguments.next_if(|x| ["calls", "pairs", "bursts"].contains(&x.as_str())).unwrap_or_default();
     let numbers: Vec<usize> = arguments.map(|x| x.parse().expect("a number")).collect();
     if mode == "calls" {
         return calls(numbers[0] as u32, numbers[1]);
@@ -619,6 +671,10 @@ fn main() {
         if mode == "pairs" {
             let mut bench = Bench::new(power, 32, false, false);
             bench.two_strips(rounds);
+            continue;
+        }
+        if mode == "bursts" {
+            bursts(power, rounds);
             continue;
         }
         for share in [1, 32, 63] {

@@ -20,7 +20,7 @@ import sys
 
 # Calls that are made a hundredth as often: by their names, and by how their names begin.
 WHOLE = ("strip_fill", "tree_fill", "strip_verify", "tree_verify", "image_freeze", "row_freeze", "image_inspect", "row_inspect")
-PAIRS = ("strip_pair_", "pair_", "strip_waiting_", "waiting_")
+PAIRS = ("strip_pair_", "pair_", "strip_waiting_", "waiting_", "strip_burst", "burst_")
 
 
 def output(*command):

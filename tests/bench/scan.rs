@@ -42,6 +42,24 @@ pub fn successor(words: &[u64], v: u64, i: usize) -> usize {
     hit.map_or(64 * words.len(), |(j, x)| 64 * j + x.trailing_zeros() as usize)
 }
 
+/// The first start of a window of w bits that holds at least m ones, or the number of bits: a count that slides on bit
+/// by bit.
+#[inline(never)]
+pub fn window(words: &[u64], w: usize, m: usize) -> usize {
+    let bit = |p: usize| (words[p / 64] >> (p % 64) & 1) as usize;
+    let bits = 64 * words.len();
+    let mut count: usize = (0..w).map(bit).sum();
+    let mut start = 0;
+    while count < m {
+        if start + w == bits {
+            return bits;
+        }
+        count = count + bit(start + w) - bit(start);
+        start += 1;
+    }
+    start
+}
+
 /// The ones of the first i bits of these bytes.
 #[inline(never)]
 pub fn rank_in_bytes(bytes: &[u8], i: usize) -> usize {
