@@ -43,10 +43,9 @@ checked-burst h words w m p =
       most = leb-true _ _ (and-second (leb 1 m) (leb m w) number);
     }
 
--- the words hold the strip
-pub burst-room : (h : Handle) (words w m : ℕ) → CheckedBurst h words w m → (h .length ≤ 64 * words) × (h .length ≤ mostBits)
-burst-room h words w m k =
-    (omega (arith, k .strip .count, k .strip .long, k .strip .step), omega (arith, k .strip .long, k .strip .most))
+-- the words hold the strip, and all that it has room for
+pub burst-room : (h : Handle) (words w m : ℕ) → CheckedBurst h words w m → (h .length ≤ h .capacity) × (h .capacity ≤ 64 * words) × (h .capacity ≤ mostBits)
+burst-room h words w m k = (k .strip .long, omega (arith, k .strip .count, k .strip .step), k .strip .most)
 
 -- a window of the strip that qualifies is one of the words that holds enough
 module _ (ws : List ℕ) (n w m : ℕ) where

@@ -33,7 +33,7 @@ first-window-requires c κs =
     let a = c .before .before .before .before .args in
     let k = known c in
     let r = burst-room (a .h) (length (a .words .now)) (a .w) (a .m) k in
-    (k .some, k .wide, omega (arith, k .most, k .wide), r .0, r .1)
+    (k .some, k .wide, omega (arith, k .most, k .wide), omega (arith, r .0, r .1), omega (arith, r .0, r .2))
 
 returns : tie.Need-returns
 returns c =

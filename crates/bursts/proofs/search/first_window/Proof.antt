@@ -72,7 +72,7 @@ returns-3 c =
     let d = c .before .first-start in
     last-found (a .words .now) (a .n) (a .w) (a .m) (64 * to) ((a .n - a .w) % 64) (c .before .before .before .before .before .before .search-all .result .count)
     (getD (a .words .now) to 0) (e .result) (d .result) (omega arith) (omega arith) (omega arith) (passed (c .before .before .before .before)) (λ q l. sym (word-bit (a .words .now) to q l)) (e .ensures)
-    (d .ensures) (c .if3 .taken)
+    (d .ensures) (omega (arith, c .if3 .taken))
 
 returns-4 : tie.Need-returns-4
 returns-4 c =
@@ -82,7 +82,7 @@ returns-4 c =
     let d = c .before .first-start in
     last-none (a .words .now) (a .n) (a .w) (a .m) (64 * to) ((a .n - a .w) % 64) (c .before .before .before .before .before .before .search-all .result .count)
     (getD (a .words .now) to 0) (e .result) (d .result) (omega arith) (omega arith) (omega arith) (passed (c .before .before .before .before)) (λ q l. sym (word-bit (a .words .now) to q l)) (e .ensures)
-    (d .ensures) (c .if3 .left)
+    (d .ensures) (omega (arith, c .if3 .left))
 
 pub first-window-spec : {M : Type 1} → statement M
 first-window-spec =
