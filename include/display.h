@@ -53,6 +53,7 @@ enum strip_refusal {
                                  image_record_size: a length above 134,217,728 */
     STRIP_SPAN = 5,           /* a span whose start is above its end */
     STRIP_NOT_FOUND = 6,      /* no such position; for a select: k not below the number of v.
+                                 strip_burst: no window of w strokes inside the strip holds m misfires.
                                  strip_pair_find: k not below the number of strokes judged differently.
                                  strip_waiting_find: no outcome has a k-th misfire */
     STRIP_FULL = 7,           /* length at capacity */
@@ -65,7 +66,8 @@ enum strip_refusal {
                                  end inside the image */
     STRIP_LABEL_ABSENT = 14,  /* no row has the label; image_row_label: k not below the number of rows */
     STRIP_WRONG_ROW = 15,     /* a row's ones, entries or padding are not those of its bits */
-    STRIP_UNEQUAL = 16        /* two strips of unequal capacity or unequal length */
+    STRIP_UNEQUAL = 16,       /* two strips of unequal capacity or unequal length */
+    STRIP_BAD_WINDOW = 17     /* a width not 1 to 65,536, or a number of misfires not 1 to the width */
 };
 
 /* Whether an answer is a refusal. It is given as the type that the call returns: a uint64_t, or the int64_t of

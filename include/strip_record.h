@@ -167,6 +167,11 @@ static inline struct strip_answer strip_record_predecessor(const struct strip_re
     return strip_answer_of(strip_predecessor(STRIP_RECORD_WORDS, v, i));
 }
 
+static inline struct strip_answer strip_record_burst(const struct strip_record *r, uint64_t w, uint64_t m)
+{
+    return strip_answer_of(strip_burst(STRIP_RECORD_WORDS, w, m));
+}
+
 static inline struct strip_answer strip_record_verify(const struct strip_record *r)
 {
     return strip_answer_of(strip_verify(STRIP_RECORD_WHOLE));

@@ -35,10 +35,12 @@
  * inputs at its edges get: a value, or "refused" with the number.
  *
  * TIME. strip_create, strip_fill, strip_truncate and strip_verify go over all words and counters, strip_successor and
- * strip_predecessor from word to word up to the first hit, image_freeze over the words up to the length. The calls on
- * two strips go over the words of both, each word once: those before i, those up to the stroke found or to the length,
- * those of the span; strip_waiting_find up to the latest position, where there is one, else to the length. The other
- * calls on a strip take constant time.
+ * strip_predecessor from word to word up to the first hit, image_freeze over the words up to the length. strip_burst
+ * passes the words up to the length once, with three reads of a word for each; the windows that start in one word are
+ * tried start by start only where a bound on the ones of each reaches m. The calls on two strips go over the words of
+ * both, each word once: those before i, those up to the stroke found or to the length, those of the span;
+ * strip_waiting_find up to the latest position, where there is one, else to the length. The other calls on a strip take
+ * constant time.
  */
 #ifndef STRIPS_H
 #define STRIPS_H
@@ -214,6 +216,19 @@ uint64_t strip_successor(uint64_t capacity, uint64_t length, const uint64_t *wor
  *   no v before i       refused 6 */
 uint64_t strip_predecessor(uint64_t capacity, uint64_t length, const uint64_t *words, size_t words_len, uint64_t v,
                            uint64_t i);
+
+/* burst(w, m). The window at s is the w strokes at the positions s to s + w - 1. It qualifies where it lies wholly
+ * inside the strip, s + w being at most the length, and holds at least m ones.
+ * Value: the start s of a window that qualifies, 0 to length - w. Where several do, it is that of any of them.
+ * Refusals: 1, 2, 17, 6.
+ *   w = 0 or above 65,536     refused 17
+ *   m = 0 or above w          refused 17
+ *   w above the length        refused 6, in an empty strip for every w from 1 to 65,536
+ *   w = length                0 where the strip holds m ones, else refused 6
+ *   m = w                     the start of w ones in a row, or refused 6
+ *   no window qualifies       refused 6; ones at and past the length complete none */
+uint64_t strip_burst(uint64_t capacity, uint64_t length, const uint64_t *words, size_t words_len, uint64_t w,
+                     uint64_t m);
 
 /* check.
  * Value: the ones that the strip holds.
