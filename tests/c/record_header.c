@@ -185,6 +185,7 @@ int main(void)
     KEPT(strip_record_push(&record, 1), STRIP_BAD_HANDLE);
     KEPT(strip_record_fill(&record, 0, 0, 0), STRIP_BAD_HANDLE);
     REFUSAL(strip_record_rank(&record, 1, 0), STRIP_BAD_HANDLE);
+    REFUSAL(strip_record_burst(&record, 1, 1), STRIP_BAD_HANDLE);
     REFUSAL(strip_record_verify(&record), STRIP_BAD_HANDLE);
     KEPT(strip_record_create(&record, 513), STRIP_BAD_HANDLE);
 
@@ -214,6 +215,12 @@ int main(void)
     REFUSAL(strip_record_successor(&record, 1, 16), STRIP_NOT_FOUND);
     VALUE(strip_record_predecessor(&record, 0, 16), 12);
     REFUSAL(strip_record_predecessor(&record, 0, 18), STRIP_POSITION);
+    VALUE(strip_record_burst(&record, 3, 3), 13);
+    VALUE(strip_record_burst(&record, 15, 10), 1);
+    VALUE(strip_record_burst(&record, 17, 10), 0);
+    REFUSAL(strip_record_burst(&record, 4, 4), STRIP_NOT_FOUND);
+    REFUSAL(strip_record_burst(&record, 18, 1), STRIP_NOT_FOUND);
+    REFUSAL(strip_record_burst(&record, 3, 4), STRIP_BAD_WINDOW);
     VALUE(strip_record_verify(&record), 10);
     compare();
     wait_for_pressure();

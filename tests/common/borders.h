@@ -13,6 +13,9 @@
 /* The largest capacity, which is the greatest length of a row too, and its counters. */
 enum { LARGEST = 134217728, MOST_COUNTERS = 299592 };
 
+/* The most strokes of a window. */
+enum { WIDEST = 65536 };
+
 /* The largest capacity at one level, the smallest and the largest at two, the smallest at three. */
 enum { ONE_LEVEL = 32768, TWO_LEVELS = 33280, TWO_LEVELS_FULL = 2097152, THREE_LEVELS = 2097664 };
 

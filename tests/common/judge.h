@@ -1,7 +1,7 @@
-/* What calls may tell, by the scope document's definitions: the sizes, the readings of a strip's words, of two strips'
- * words and of a strip with strokes that wait, and on an image the chain, whether each row is right, clear, freeze,
- * inspect, opening, the labels and lengths of rows, and their readings. Of the library's nothing is used but the
- * refusals' numbers. */
+/* What calls may tell, by the documents' definitions: the sizes, the readings of a strip's words, of two strips' words
+ * and of a strip with strokes that wait, and on an image the chain, whether each row is right, clear, freeze, inspect,
+ * opening, the labels and lengths of rows, and their readings. Of the library's nothing is used but the refusals'
+ * numbers. */
 #ifndef JUDGE_H
 #define JUDGE_H
 
@@ -307,6 +307,38 @@ static inline uint64_t predecessor_answer(struct opened o, uint64_t v, uint64_t 
         if (bit(o.row->bits, p - 1) == v)
             return p - 1;
     return REFUSED(STRIP_NOT_FOUND);
+}
+
+/* 1, 2, 17 of burst(w, m), and 6 where the strip is shorter than w, or 0. */
+static inline uint64_t burst_refused(struct opened o, uint64_t w, uint64_t m)
+{
+    if (o.row == NULL)
+        return o.refused;
+    if (w < 1 || w > WIDEST || m < 1 || m > w)
+        return REFUSED(STRIP_BAD_WINDOW);
+    return w > o.row->length ? REFUSED(STRIP_NOT_FOUND) : 0;
+}
+
+/* The most ones of a window of w strokes, wholly inside the strip; w is 1 to the length. */
+static inline uint64_t most_ones(const struct row *row, uint64_t w)
+{
+    uint64_t ones = ones_before(row, w), most = ones;
+    for (uint64_t s = 1; s + w <= row->length; s++) {
+        ones = ones + bit(row->bits, s + w - 1) - bit(row->bits, s - 1);
+        most = ones > most ? ones : most;
+    }
+    return most;
+}
+
+/* Whether burst(w, m) may tell this: the start of any window that holds m ones; 6 where there is none. */
+static inline int burst_allowed(struct opened o, uint64_t w, uint64_t m, uint64_t told)
+{
+    uint64_t refused = burst_refused(o, w, m);
+    if (refused != 0)
+        return told == refused;
+    if (most_ones(o.row, w) < m)
+        return told == REFUSED(STRIP_NOT_FOUND);
+    return told <= o.row->length - w && ones_before(o.row, told + w) - ones_before(o.row, told) >= m;
 }
 
 /* The position of the k-th one of a word, or 64. */

@@ -6,8 +6,8 @@
  * written. Each round draws a record, an image and two strips, and makes calls of every kind on them; round 0 is that
  * of the largest. A round draws from the seed and its number, which a failure tells; with ROUND it runs alone. Held
  * here is that a call touches nothing that was not lent, tells nothing that it may not tell, and changes nothing where
- * it is refused or only reads; the sizes, look, next, prior, the eight calls on two strips, freezing, opening, the
- * labels and lengths of rows and their readings are held to common/judge.h in full. At the end of all rounds every
+ * it is refused or only reads; the sizes, look, next, prior, burst, the eight calls on two strips, freezing, opening,
+ * the labels and lengths of rows and their readings are held to common/judge.h in full. At the end of all rounds every
  * function has been accepted and has met every refusal of its line. */
 #include "lend.h"
 
@@ -25,10 +25,10 @@ enum { MOST_IMAGE = 16 + 16 + 528 * 32768 + 64, SCRIPT = 24 };
 
 /* Those of libstrips.a, the display's six last, then those of libtesting.a. */
 enum call {
-    COUNTER_COUNT, CREATE, PUSH, FLIP, FILL, TRUNCATE, GET, RANK, SELECT, SUCCESSOR, PREDECESSOR, VERIFY, PAIR_BOTH,
-    PAIR_EITHER, PAIR_ONLY_FIRST, PAIR_DIFFER, PAIR_FIND, PAIR_SPAN, WAITING_COUNT, WAITING_FIND, RECORD_SIZE, CLEAR,
-    FREEZE, INSPECT, ROW_RANK, ROW_SELECT, ROW_GET, ROW_LENGTH, ROW_LABEL, SELECT_IN_WORD, OPEN, PART_GET, PART_RANK,
-    PART_SELECT, OPENED_GET, OPENED_RANK, OPENED_SELECT, EXECUTE, STEP, CALLS
+    COUNTER_COUNT, CREATE, PUSH, FLIP, FILL, TRUNCATE, GET, RANK, SELECT, SUCCESSOR, PREDECESSOR, BURST, VERIFY,
+    PAIR_BOTH, PAIR_EITHER, PAIR_ONLY_FIRST, PAIR_DIFFER, PAIR_FIND, PAIR_SPAN, WAITING_COUNT, WAITING_FIND,
+    RECORD_SIZE, CLEAR, FREEZE, INSPECT, ROW_RANK, ROW_SELECT, ROW_GET, ROW_LENGTH, ROW_LABEL, SELECT_IN_WORD, OPEN,
+    PART_GET, PART_RANK, PART_SELECT, OPENED_GET, OPENED_RANK, OPENED_SELECT, EXECUTE, STEP, CALLS
 };
 
 #define R(n) (1u << (n))
@@ -55,6 +55,7 @@ static const struct {
     [SELECT] = {"strip_select", RECORD | R(STRIP_BAD_VALUE) | R(STRIP_NOT_FOUND) | R(STRIP_UNFIT)},
     [SUCCESSOR] = {"strip_successor", HANDLE | R(STRIP_BAD_VALUE) | R(STRIP_POSITION) | R(STRIP_NOT_FOUND)},
     [PREDECESSOR] = {"strip_predecessor", HANDLE | R(STRIP_BAD_VALUE) | R(STRIP_POSITION) | R(STRIP_NOT_FOUND)},
+    [BURST] = {"strip_burst", HANDLE | R(STRIP_BAD_WINDOW) | R(STRIP_NOT_FOUND)},
     [VERIFY] = {"strip_verify", RECORD | R(STRIP_UNFIT)},
     [PAIR_BOTH] = {"strip_pair_both", PAIR | R(STRIP_POSITION)},
     [PAIR_EITHER] = {"strip_pair_either", PAIR | R(STRIP_POSITION)},
@@ -107,7 +108,7 @@ static void expect(enum call call, int holds, const char *what)
 /* Notes a refusal's number, 0 where the call was accepted. */
 static void note(enum call call, uint64_t refusal)
 {
-    expect(call, refusal == 0 || (refusal <= STRIP_UNEQUAL && functions[call].refusals >> refusal & 1),
+    expect(call, refusal == 0 || (refusal <= STRIP_BAD_WINDOW && functions[call].refusals >> refusal & 1),
            "a refusal not of its line");
     calls[call]++;
     met[call] |= 1u << refusal;
@@ -387,6 +388,30 @@ static void read_words(struct record *r, enum call call)
     expect(call, told(call, answer) == wanted, "another answer");
 }
 
+/* A width of a window on so many bits. */
+static uint64_t width(uint64_t length)
+{
+    switch (below(8)) {
+    case 0: return one_in(2) ? huge() : WIDE + below(length + 1);
+    case 1: return near(one_in(2) ? WIDEST : length);
+    case 2: return near(64 * below(length / 64 + 2));
+    case 3: return below(3);
+    default: return 1 + below(length + 1);
+    }
+}
+
+/* burst, held to the judge: m at times around the most that a window holds. */
+static void seek_burst(struct record *r)
+{
+    uint64_t c = some_capacity(r), n = some_length(r), w = width(r->length), m = one_in(2) ? 1 : near(w);
+    struct row room;
+    struct opened strip = open_strip(&room, c, n, r->words.write, r->words.length / 8);
+    if (burst_refused(strip, w, 1) == 0 && !one_in(4))
+        m = near(most_ones(strip.row, w));
+    uint64_t answer = told(BURST, strip_burst(c, n, WORDS(r), w, m));
+    expect(BURST, burst_allowed(strip, w, m, answer), "another answer");
+}
+
 /* count, find and check: within their bounds. */
 static void read_record(struct record *r, enum call call)
 {
@@ -455,6 +480,8 @@ static void record_calls(struct record *r)
             read_words(r, words[below(3)]);
         else
             read_record(r, reads[below(3)]);
+        if (one_in(4))
+            seek_burst(r);
         if (one_in(2))
             change(r, changes[below(one_in(4) ? 7 : 4)]);
     }
@@ -975,6 +1002,19 @@ static void largest_waiting(void)
     give_back(none.words);
 }
 
+/* A strip of the greatest length, with ones in its last strokes alone. */
+static void largest_burst(void)
+{
+    struct record r = {LARGEST, LARGEST, lend(&words_memory, LARGEST / 8, at_end), {0}};
+    memset(r.words.write, 0, r.words.length);
+    memset(r.words.write + r.words.length - WIDEST / 8, 255, WIDEST / 8);
+    uint64_t last = LARGEST - WIDEST;
+    expect(BURST, told(BURST, strip_burst(LARGEST, LARGEST, WORDS(&r), WIDEST, WIDEST)) == last, "another start");
+    expect(BURST, told(BURST, strip_burst(LARGEST, LARGEST - 1, WORDS(&r), WIDEST, WIDEST)) == REFUSED(STRIP_NOT_FOUND),
+           "a burst past the length");
+    give_back(r.words);
+}
+
 /* An image of about 2^32 bytes with one row of `length` zeros at its end. Bytes that no call touches take no memory. */
 static void largest_image(size_t size, uint64_t length)
 {
@@ -1035,6 +1075,7 @@ static void largest_round(void)
         for (uint64_t length = 0; length <= 300; length += 300)
             largest_image(WIDE + off, length);
     largest_waiting();
+    largest_burst();
 }
 
 static void run_round(uint64_t number)

@@ -3,6 +3,9 @@
 /// The largest capacity, which is the greatest length of a row too.
 pub const LARGEST: u64 = 134_217_728;
 
+/// The most strokes of a window.
+pub const WIDEST: u64 = 65_536;
+
 /// The most bytes of an image.
 pub const MOST_BYTES: usize = 1 << 32;
 

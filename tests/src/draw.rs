@@ -1,7 +1,8 @@
-//! Calls, queries, comparisons and calls on waiting strokes drawn at random, their arguments around what they meet.
-use crate::borders::{BAD_CAPACITIES, BAD_VALUES, FAR, LARGEST, UNITS, WIDE};
+//! Calls, queries, comparisons, calls on waiting strokes and bursts drawn at random, their arguments around what they meet.
+use crate::borders::{BAD_CAPACITIES, BAD_VALUES, FAR, LARGEST, UNITS, WIDE, WIDEST};
+use crate::burst::Burst;
 use crate::call::{Call, Opcode, CALLS};
-use crate::model::number_of;
+use crate::model::{self, number_of};
 use crate::pair::Comparison;
 use crate::paper::Frozen;
 use crate::query::Query;
@@ -202,6 +203,39 @@ pub fn waiting(random: &mut Random, kind: Waiting, capacity: u64, strips: (&[boo
             Waiting::Find(index(random, &ones, 1))
         }
     }
+}
+
+/// A width: inside the strip, beside its length, beside a multiple of a unit, beside the most, or far away.
+fn width(random: &mut Random, length: u64) -> u64 {
+    match random.below(16) {
+        0 => far(random),
+        1 => WIDE + random.number_below(length + 1),
+        2 => near(random, WIDEST),
+        3 => near(random, length),
+        4..=7 => {
+            let unit = one_of(random, &UNITS[..4]);
+            let edge = unit * random.number_below(length / unit + 2);
+            near(random, edge)
+        }
+        8 => random.number_below(4),
+        _ => 1 + random.number_below(length + 1),
+    }
+}
+
+/// A burst to seek on a strip with these counts of its ones: m around the most that a window of the width holds, around the
+/// width, or anywhere.
+pub fn burst(random: &mut Random, counts: &[u32]) -> Burst {
+    let w = width(random, counts.len() as u64 - 1);
+    let most = model::fullest(counts, w).unwrap_or(1);
+    let m = match random.below(16) {
+        0 => far(random),
+        1 => WIDE + random.number_below(most + 1),
+        2 => near(random, w),
+        3 => random.number_below(3),
+        4..=10 => near(random, most),
+        _ => 1 + random.number_below(most + 1),
+    };
+    Burst { w, m }
 }
 
 /// The call of an opcode; the opcode has a multiple of 17 added at times.

@@ -89,6 +89,7 @@ extern "C" {
     ) -> u64;
     pub fn strip_successor(capacity: u64, length: u64, words: *const u64, words_len: usize, v: u64, i: u64) -> u64;
     pub fn strip_predecessor(capacity: u64, length: u64, words: *const u64, words_len: usize, v: u64, i: u64) -> u64;
+    pub fn strip_burst(capacity: u64, length: u64, words: *const u64, words_len: usize, w: u64, m: u64) -> u64;
     pub fn strip_verify(
         capacity: u64,
         length: u64,

@@ -1,8 +1,9 @@
-//! The proved calls, to be compared with a plain model of them. The calls: those on words here, those on two strips' words in
-//! `pair`, those on a strip and its waiting strip in `waiting`, those on a record in `record`, those on an image in `image`,
-//! the queries in `query`, and scripts of calls in `script`. The model: strips and rows in `model`, the image's bytes in
-//! `layout`, the paper machine in `paper`.
+//! The proved calls, to be compared with a plain model of them. The calls: those on words here, the one that seeks a burst in
+//! `burst`, those on two strips' words in `pair`, those on a strip and its waiting strip in `waiting`, those on a record in
+//! `record`, those on an image in `image`, the queries in `query`, and scripts of calls in `script`. The model: strips and rows
+//! in `model`, the image's bytes in `layout`, the paper machine in `paper`.
 pub mod borders;
+pub mod burst;
 pub mod call;
 pub mod cases;
 pub mod draw;

@@ -1,7 +1,7 @@
 //! The calls on a strip, on two strips, on a strip with strokes still waiting and on a row, by the documents' definitions: a
 //! strip is a list of bits, every search is a loop over positions, and every counter is summed anew from the children that it
 //! gives. Refusals are judged in the order of the lines.
-use crate::borders::LARGEST;
+use crate::borders::{LARGEST, WIDEST};
 use crate::call::{Call, Opcode};
 use crate::refusal::{Answer, Bounded, Bounds, Refusal, Signed, Values};
 use crate::Handle;
@@ -130,6 +130,39 @@ pub fn on_row(bits: &[bool], call: Call) -> Values {
         _ => unreachable!("{call:?} is not on a row"),
     };
     told.map(|value| (value, 0))
+}
+
+// ---- the windows of a strip, by the counts of its ones: count(1, i) for each i from 0 to the length
+
+/// The counts of the ones of a list of bits.
+pub fn counts_of(bits: &[bool]) -> Vec<u32> {
+    let mut counts = vec![0];
+    for bit in bits {
+        counts.push(counts[counts.len() - 1] + u32::from(*bit));
+    }
+    counts
+}
+
+/// The ones of each window of w strokes, wholly inside the strip, by its start.
+fn windows(counts: &[u32], w: u64) -> impl Iterator<Item = u64> + '_ {
+    let at_ends = counts.get(w as usize..).unwrap_or(&[]);
+    at_ends.iter().zip(counts).map(|(at_end, at_start)| u64::from(at_end - at_start))
+}
+
+/// The most ones that a window of w strokes holds, where there is one.
+pub fn fullest(counts: &[u32], w: u64) -> Option<u64> {
+    windows(counts, w).max()
+}
+
+/// Whether the window of w strokes at s lies wholly inside the strip and holds at least m ones.
+pub fn qualifies(counts: &[u32], w: u64, m: u64, s: u64) -> bool {
+    windows(counts, w).nth(s as usize).is_some_and(|ones| ones >= m)
+}
+
+/// burst(w, m): 17, 6; else any start that qualifies is right.
+pub fn burst(counts: &[u32], w: u64, m: u64) -> Result<(), Refusal> {
+    BadWindow.when(!(1..=WIDEST).contains(&w) || !(1..=w).contains(&m))?;
+    NotFound.when(!windows(counts, w).any(|ones| ones >= m))
 }
 
 // ---- two strips, each a list of bits, of one length

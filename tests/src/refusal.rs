@@ -1,7 +1,7 @@
 //! The refusals by their numbers, and answers as the calls give them.
 use Refusal::*;
 
-/// A refusal of the scope document; the number is the document's.
+/// A refusal of the documents; the number is theirs.
 #[derive(Clone, Copy, Debug, PartialEq, Eq, PartialOrd, Ord)]
 pub enum Refusal {
     /// capacity not allowed, or length above capacity
@@ -36,10 +36,12 @@ pub enum Refusal {
     WrongRow = 15,
     /// two strips of unequal capacity or length
     Unequal = 16,
+    /// a width not from 1 to 65,536, or a number of misfires not from 1 to the width
+    BadWindow = 17,
 }
 
 /// All refusals, in the order of their numbers.
-pub const REFUSALS: [Refusal; 16] = [
+pub const REFUSALS: [Refusal; 17] = [
     BadHandle,
     WordCount,
     CounterCount,
@@ -56,6 +58,7 @@ pub const REFUSALS: [Refusal; 16] = [
     LabelAbsent,
     WrongRow,
     Unequal,
+    BadWindow,
 ];
 
 /// The answer of a call that tells one value.

@@ -1,4 +1,5 @@
-//! What calls, queries, comparisons and calls on waiting strokes told, counted.
+//! What calls, queries, comparisons, calls on waiting strokes and bursts told, counted.
+use crate::burst;
 use crate::call::{Call, Opcode, CALLS};
 use crate::pair::{Comparison, COMPARISONS};
 use crate::query::{Query, QUERIES};
@@ -37,6 +38,7 @@ pub struct Tally {
     queries: [Told; QUERIES.len()],
     comparisons: [Told; COMPARISONS.len()],
     waiting: [Told; WAITING.len()],
+    bursts: Told,
 }
 
 impl Tally {
@@ -54,6 +56,10 @@ impl Tally {
 
     pub fn note_waiting(&mut self, waiting: Waiting, told: Bounded) {
         self.waiting[waiting.index()].note(told.err());
+    }
+
+    pub fn note_burst(&mut self, told: Answer) {
+        self.bursts.note(told.err());
     }
 
     /// Whether a call was ever made.
@@ -81,6 +87,11 @@ impl Tally {
         WAITING.into_iter().for_each(|w| self.waiting[w.index()].expect(w.name(), w.refusals(), what));
     }
 
+    /// Asserts that a burst was found, and that every refusal that it can meet was met and no other.
+    pub fn expect_bursts(&self, what: &str) {
+        self.bursts.expect("burst", &burst::REFUSALS, what);
+    }
+
     /// Prints how many calls of each kind were made, and how often each refusal was met.
     pub fn print(&self, what: &str) {
         let adds = self.calls[Opcode::Push as usize].sum();
@@ -88,6 +99,7 @@ impl Tally {
         print(what, "queries", &self.queries);
         print(what, "comparisons", &self.comparisons);
         print(what, "calls on waiting strokes", &self.waiting);
+        print(what, "bursts", std::slice::from_ref(&self.bursts));
     }
 }
 

@@ -1,9 +1,11 @@
-//! Which words freeze and the calls on two strips read, a strip's waiting strip being the second of two: of each strip those
-//! that hold what is asked for, and no other. The others are lent in closed pages. A call that reads one of them, or writes
-//! any, is not told as a failed test: a signal ends the process of this file, and `--test-threads=1` shows in which test.
+//! Which words freeze, the search for a burst and the calls on two strips read, a strip's waiting strip being the second of
+//! two: of each strip those that hold what is asked for, and no other. The others are lent in closed pages. A call that reads
+//! one of them, or writes any, is not told as a failed test: a signal ends the process of this file, and `--test-threads=1`
+//! shows in which test.
 use std::fmt::Debug;
 use std::ops::Range;
-use strip_tests::borders::{beside, FAR};
+use strip_tests::borders::{beside, FAR, WIDE, WIDEST};
+use strip_tests::burst::Burst;
 use strip_tests::cases::Cases;
 use strip_tests::image::freeze_from;
 use strip_tests::layout;
@@ -15,7 +17,7 @@ use strip_tests::refusal::{Answer, Bounded, Bounds, Refusal, Signed};
 use strip_tests::waiting::{Pointers, Waiting};
 use strip_tests::Handle;
 use Comparison::{Find, Span};
-use Refusal::{BadHandle, BadLabel, LabelPresent, NoRoom, NotFound, Position, Unequal, Unsound, WordCount};
+use Refusal::{BadHandle, BadLabel, BadWindow, LabelPresent, NoRoom, NotFound, Position, Unequal, Unsound, WordCount};
 
 /// The words of a strip: four pages of them.
 const WORDS: usize = 4 * PAGE;
@@ -344,5 +346,62 @@ fn refused_freeze_reads_nothing() {
         let strip = strip(capacity, length, vec![u64::MAX; count]);
         let bits = model::bits_of(&strip.words);
         assert_eq!(expect_freeze(&strip, &bits, 0..0, image, label), Err(refusal));
+    }
+}
+
+/// Seeks a burst where these words alone can be read, and asserts the answer: with a closed page right before them, and with
+/// one right after them.
+fn expect_burst(w: u64, m: u64, strip: &Strip, open: Range<usize>, wanted: Answer) {
+    for border in [open.start, open.end] {
+        let pages = Pages::new(&strip.words, open.clone(), border);
+        let (words, count) = pages.lend();
+        // SAFETY: as in `expect`.
+        let told = unsafe { Burst { w, m }.ask((strip.handle, words, count)) };
+        assert_eq!(told, wanted, "burst({w}, {m}) under {:?}, words {open:?}", strip.handle);
+    }
+}
+
+/// A burst is sought up to the last word that the length reaches: where there is none, and where the last start alone
+/// qualifies. All past the length are ones.
+#[test]
+fn burst_reads() {
+    for length in positions().into_iter().chain([0, LENGTH, CAPACITY - 1, CAPACITY]) {
+        let mut strip = strip(CAPACITY, length, vec![0; WORDS]);
+        for (place, word) in (0..).zip(&mut strip.words) {
+            let below = length.saturating_sub(64 * place).min(64);
+            *word = if below == 64 { 0 } else { u64::MAX << below };
+        }
+        let widths = [1, 2, 63, 64, 65, 500, 512, length / 2, length / 64 * 64, length - length.min(1), length];
+        for w in widths.into_iter().filter(|w| (1..=length.min(WIDEST)).contains(w)) {
+            expect_burst(w, 1, &strip, 0..words_below(length), Err(NotFound));
+            expect_burst(w, w, &strip, 0..words_below(length), Err(NotFound));
+            strip.words[(length as usize - 1) / 64] ^= 1 << ((length - 1) % 64);
+            expect_burst(w, 1, &strip, 0..words_below(length), Ok(length - w));
+            strip.words[(length as usize - 1) / 64] ^= 1 << ((length - 1) % 64);
+        }
+        for w in [length + 1, length + 64, WIDEST].into_iter().filter(|w| (length + 1..=WIDEST).contains(w)) {
+            expect_burst(w, 1, &strip, 0..words_below(length), Err(NotFound));
+        }
+    }
+}
+
+/// One that is refused by its handle, its words or its window reads nothing.
+#[test]
+fn refused_burst_reads_nothing() {
+    let of_words = |capacity, length, count| strip(capacity, length, vec![u64::MAX; count]);
+    for (strip, refusal) in [
+        (of_words(CAPACITY, CAPACITY + 1, WORDS), BadHandle),
+        (of_words(CAPACITY - 1, LENGTH, WORDS), BadHandle),
+        (of_words(0, 0, WORDS), BadHandle),
+        (of_words(CAPACITY, LENGTH, WORDS - 1), WordCount),
+        (of_words(CAPACITY, LENGTH, WORDS + 1), WordCount),
+    ] {
+        for (w, m) in [(1, 1), (64, 65), (LENGTH, 1), (0, 0), (WIDEST + 1, 1)] {
+            expect_burst(w, m, &strip, 0..0, Err(refusal));
+        }
+    }
+    let good = of_words(CAPACITY, LENGTH, WORDS);
+    for (w, m) in [(0, 0), (0, 1), (1, 0), (64, 65), (64, WIDE + 1), (WIDEST + 1, 1), (WIDE + 1, 1), (u64::MAX, 1)] {
+        expect_burst(w, m, &good, 0..0, Err(BadWindow));
     }
 }
