@@ -191,7 +191,6 @@ extern "C" {
         out: *mut u64,
         out_len: usize,
     );
-    pub fn strip_burst(capacity: u64, length: u64, words: *const u64, words_len: usize, w: u64, m: u64) -> u64;
     pub fn image_record_size(length: u64) -> u64;
     pub fn image_clear(image: *mut u8, image_len: usize) -> u64;
     pub fn image_freeze(
