@@ -1,6 +1,6 @@
 -- The burst call: what its checks leave, and what a search over the words tells of the strip. Assumes nothing.
 use mathlib.Core.Path.{_≡_, refl}
-use mathlib.Core.Bool.{Bool, _&&_}
+use mathlib.Core.Bool.{_&&_}
 use mathlib.Core.List.{List}
 use mathlib.Core.Option.{none}
 use Prim.Native.Nat.{ℕ, _+_, _*_, _≤_, _<_}
@@ -10,7 +10,7 @@ use lib.Dec.{leb}
 use borrow.Author.Tests.{leb-true}
 use Rattle.words.specs.declared.handle.Handle.{Handle}
 use Rattle.words.specs.Bits.{bitAt, ones}
-use Rattle.words.specs.Strip.{stripOf, spanOnes}
+use Rattle.words.specs.Strip.{stripOf}
 use Rattle.words.specs.Refusals.{judge, Told, value, refused, Small}
 use Rattle.words.specs.Handles.{mostBits, untaken, stripLines}
 use Rattle.words.proofs.BoolLaws.{and-first, and-second, not-not}

@@ -1,5 +1,5 @@
 -- Windows over a list of words: the positions that follow a window, the ones that leave and enter, and starts that are ruled out. Assumes nothing.
-use mathlib.Core.Path.{_≡_, refl, sym, ap, ap₂, subst, _∙_}
+use mathlib.Core.Path.{_≡_, sym, ap, ap₂, subst, _∙_}
 use mathlib.Core.List.{List}
 use mathlib.Core.Logic.{_⊎_, inl, inr}
 use Prim.Native.Nat.{ℕ, _+_, _-_, _*_, _/_, _%_, _^_, max, _≤_, _<_}
@@ -100,10 +100,10 @@ holds-wider ws w a c v h g = let e : a + w + 64 ≡ a + (w + 64) = omega arith i
 
 -- such a window, its first 64 positions, which hold x, and the window that starts past these
 module _ (ws : List ℕ) (w a b c x : ℕ) (eb : a + 64 ≡ b) (wide : Holds ws (w + 64) a c) (first : Holds ws 64 a x) where
-  pub leaving-le : x ≤ c
+  leaving-le : x ≤ c
   leaving-le = let l : a + 64 ≤ a + (w + 64) = omega arith in omega (arith, wide, first, sum-mono (bitAt ws) l)
 
-  pub holds-moved : Holds ws w b (c - x)
+  holds-moved : Holds ws w b (c - x)
   holds-moved =
       let e : a + (w + 64) ≡ b + w = omega arith in
       omega (arith, wide, first, leaving-le, ap (ones (bitAt ws)) eb, ap (ones (bitAt ws)) e)
@@ -125,22 +125,31 @@ none-join ws w m a b c f g s la lc = go (lt-or s b)
 pub none-empty : (ws : List ℕ) (w m a b : ℕ) → b ≤ a → NoneIn ws w m a b
 none-empty ws w m a b h s la lb = absurd (omega arith)
 
+-- none of a word's first k starts serves where the first window's ones and all that enter are too few
+pub bound-none : (f g : ℕ → ℕ) (c m k : ℕ) → k ≤ 64 → c + ones g 64 < m → FirstStart f g c m k k
+bound-none f g c m k lk h =
+    record {
+      within = omega arith;
+      none = (λ d l. let ld : d ≤ 64 = omega arith in omega (arith, sum-mono g ld));
+      hit = (λ l. absurd (omega arith));
+    }
+
 -- ---- windows that start in one word
 -- that of position a holds c ones; the bits of x are the positions from a on, the first v bits of e those past the window
 module _ (ws : List ℕ) (w a c x e v : ℕ) (holds : Holds ws w a c) (xs : (p : ℕ) → p < 64 → bit x p ≡ bitAt ws (a + p))
     (es : (p : ℕ) → p < v → bit e p ≡ bitAt ws (a + w + p)) where
   -- the ones that leave, and those that enter
-  pub left : (d : ℕ) → d ≤ 64 → ones (bitAt ws) (a + d) ≡ ones (bitAt ws) a + ones (bit x) d
+  left : (d : ℕ) → d ≤ 64 → ones (bitAt ws) (a + d) ≡ ones (bitAt ws) a + ones (bit x) d
   left d l = part-ones (bitAt ws) (bit x) a 64 d xs l
 
-  pub entered : (d : ℕ) → d ≤ v → ones (bitAt ws) (a + d + w) ≡ ones (bitAt ws) a + c + ones (bit e) d
+  entered : (d : ℕ) → d ≤ v → ones (bitAt ws) (a + d + w) ≡ ones (bitAt ws) a + c + ones (bit e) d
   entered d l =
       let at : a + w + d ≡ a + d + w = omega arith in
       omega (arith, ap (ones (bitAt ws)) at, part-ones (bitAt ws) (bit e) (a + w) v d es l, holds)
 
   -- the starts that were tried
   module _ (m k r : ℕ) (lk : k ≤ 64) (lv : k ≤ v + 1) (first : FirstStart (bit x) (bit e) c m k r) where
-    pub tried-none : NoneIn ws w m a (a + r)
+    tried-none : NoneIn ws w m a (a + r)
     tried-none s la lb =
         let at : a + (s - a) ≡ s = omega arith in
         let l : s - a < r = omega arith in
@@ -154,7 +163,7 @@ module _ (ws : List ℕ) (w a c x e v : ℕ) (holds : Holds ws w a c) (xs : (p :
           entered (s - a) (omega (arith, first .within)),
         )
 
-    pub tried-hit : r < k → Reaches ws w m (a + r)
+    tried-hit : r < k → Reaches ws w m (a + r)
     tried-hit l = omega (arith, first .hit l, left r (omega arith), entered r (omega arith))
 
 -- ---- the starts of a word, from its first position a to that of the next, b
@@ -189,6 +198,10 @@ pub record Passed (ws : List ℕ) (w m a b c : ℕ) : Type 0 where
 
 pub passed-none : (ws : List ℕ) (w m a b c : ℕ) → a ≡ b → Holds ws w a c → Passed ws w m a b c
 passed-none ws w m a b c e h = record { none = none-empty ws w m a b (omega arith); holds = subst (λ (q : ℕ). Holds ws w q c) e h }
+
+-- a search that found none
+pub searched-passed : {ws : List ℕ} {w m a b r c : ℕ} → Searched ws w m a b r c → b ≤ r → Passed ws w m a b c
+searched-passed f l = record { none = (λ s la lb. f .first .none s la (omega arith)); holds = f .holds l }
 
 module _ {ws : List ℕ} {w m a k c : ℕ} (p : Passed ws w m a k c) where
   -- a first start past these is the first of all
@@ -228,7 +241,8 @@ module _ {ws : List ℕ} {w m a k c : ℕ} (p : Passed ws w m a k c) where
   -- after these a search up to b, which found none
   pub passed-over : (b r count : ℕ) → Searched ws w m k b r count → b ≤ r → Passed ws w m a b count
   passed-over b r count f l =
-      record { none = none-join ws w m a k b (p .none) (λ s la lb. f .first .none s la (omega arith)); holds = f .holds l }
+      let q = searched-passed f l in
+      record { none = none-join ws w m a k b (p .none) (q .none); holds = q .holds }
 
   -- or to the end
   pub searched-after : (n r count : ℕ) → Searched ws w m k n r count → a ≤ k → Searched ws w m a n r count
@@ -239,10 +253,6 @@ module _ {ws : List ℕ} {w m a k c : ℕ} (p : Passed ws w m a k c) where
 pub below-found : (ws : List ℕ) (n w m b r : ℕ) → 1 ≤ w → b + w ≤ n → FirstIn ws w m 0 b r → r < b → FirstBelow ws n w m r
 below-found ws n w m b r lw lb f l =
     record { within = omega arith; none = (λ s h e. f .none s (omega arith) h); hit = (λ h. (omega arith, f .hit l)) }
-
--- a search that found none
-pub below-passed : (ws : List ℕ) (w m b r c : ℕ) → Searched ws w m 0 b r c → b ≤ r → Passed ws w m 0 b c
-below-passed ws w m b r c f l = record { none = (λ s la lb. f .first .none s la (omega arith)); holds = f .holds l }
 
 -- the last starts: from the first position a of a word to a + k, where the window ends at n; d is the first of them that serves
 module _ (ws : List ℕ) (n w m a k c x e d : ℕ) (en : n ≡ a + w + k) (lw : 1 ≤ w) (lk : k < 64) (p : Passed ws w m 0 a c)

@@ -6,16 +6,16 @@ ghost use Rattle.words.specs.Bits.{bit, bitAt};
 ghost use Rattle.words.specs.Handles.{mostBits, wordsOf};
 ghost use Rattle.bursts.specs.Calls.{mostWidth};
 ghost use Rattle.bursts.specs.Working.{Holds, RunOnes, Searched, FirstBelow};
+use super::window::bounded_start;
 use super::window::entering;
 use super::window::entering_ones;
-use super::window::first_start;
 use super::window::following;
 use super::window::leaving_ones;
 use super::window::start_in_word;
 use words::ones_of;
 use words::span_ones;
 
-// What a search over whole words gives: the first start that serves, or the end of these words; then also the ones of the window that starts there.
+// What a search over whole words gives: the first start that serves, or the end of these words; in that case also the ones of the window that starts there.
 pub struct Search {
     pub start: usize,
     pub count: usize,
@@ -144,7 +144,7 @@ pub fn first_window(words: &[u64], n: usize, w: usize, m: usize) -> usize
     }
     let rest = (n - w) % 64;
     let e = entering_below(words, n, w, to);
-    let d = first_start(words[to], e, found.count, m, rest + 1);
+    let d = bounded_start(words[to], e, found.count, m, rest + 1);
     if d <= rest {
         return 64 * to + d;
     }

@@ -46,8 +46,19 @@ pub fn first_start(x: u64, e: u64, c: usize, m: usize, k: usize) -> usize
     k
 }
 
+// The same, where the starts are tried only if the ones of the first window and all of e reach m: no window that starts in the word holds more.
+pub fn bounded_start(x: u64, e: u64, c: usize, m: usize, k: usize) -> usize
+    requires { ⌜ (k ≤ 64) × (c ≤ mostWidth) × (m ≤ mostWidth) ⌝ }
+    ensures { λ r. ⌜ FirstStart (bit x) (bit e) c m k r ⌝ }
+{
+    if c + ones_of(e) < m {
+        return k;
+    }
+    first_start(x, e, c, m, k)
+}
+
 // The first start in word j whose window holds at least m ones, or the next word's first position. That of word j holds c; with the 64 positions past it, `most`:
-// no window that starts in the word holds more, and only where m are reached are its starts tried.
+// no window that starts in the word holds more, and only where these reach m is the word read and are its starts tried.
 pub fn start_in_word(words: &[u64], w: usize, m: usize, j: usize, c: usize, most: usize) -> usize
     requires { ⌜ (1 ≤ w) × (w ≤ mostWidth) × (m ≤ mostWidth) × (j ≤ wordsOf mostBits) × (64 * (j + 1) + w ≤ 64 * length (now words)) × Holds (now words) w (64 * j) c × Holds (now words) (w + 64) (64 * j) most ⌝ }
     ensures { λ r. ⌜ FirstIn (now (words .entry)) w m (64 * j) (64 * (j + 1)) r ⌝ }

@@ -1,12 +1,11 @@
 -- `bursts::search::first_window` meets its contract: the starts of whole words, then those of the last word with a start. Assumes nothing.
-use mathlib.Core.Path.{_≡_, sym}
-use Prim.Native.Nat.{ℕ, _+_, _-_, _*_, _/_, _%_, _≤_, _<_}
+use mathlib.Core.Path.{sym}
+use Prim.Native.Nat.{ℕ, _-_, _*_, _/_, _%_}
 use native.Mathlib.Omega.{arith}
 use borrow.Author.Needs.{needs}
 use lib.ListN.{getD}
-use Rattle.words.specs.Bits.{bit, bitAt}
 use Rattle.words.proofs.WordLaws.{word-bit}
-use Rattle.bursts.proofs.WindowLaws.{holds-first, holds-le, Passed, below-found, below-passed, last-found, last-none}
+use Rattle.bursts.proofs.WindowLaws.{holds-first, holds-le, Passed, below-found, searched-passed, last-found, last-none}
 use Rattle.bursts.proofs.search.first_window.Statement.{statement}
 use Rattle.bursts.proofs.search.first_window.Tie as tie
 
@@ -33,14 +32,14 @@ returns-2 c =
 entering-below-requires : tie.Need-entering-below-requires
 entering-below-requires c κs = search needs
 
-mul-first-start : tie.Need-mul-first-start
-mul-first-start c = search needs
+mul-bounded-start : tie.Need-mul-bounded-start
+mul-bounded-start c = search needs
 
-shared-slice-read-first-start : tie.Need-shared-slice-read-first-start
-shared-slice-read-first-start c = search needs
+shared-slice-read-bounded-start : tie.Need-shared-slice-read-bounded-start
+shared-slice-read-bounded-start c = search needs
 
-add-first-start : tie.Need-add-first-start
-add-first-start c = search needs
+add-bounded-start : tie.Need-add-bounded-start
+add-bounded-start c = search needs
 
 -- no start of a whole word serves
 passed : (c : tie.Else2)
@@ -49,10 +48,10 @@ passed : (c : tie.Else2)
 passed c =
     let a = c .before .before .before .before .before .before .args in
     let f = c .before .before .search-all in
-    below-passed (a .words .now) (a .w) (a .m) (64 * ((a .n - a .w) / 64)) (f .result .start) (f .result .count) (f .ensures) (c .if2 .left)
+    searched-passed (f .ensures) (c .if2 .left)
 
-first-start-requires : tie.Need-first-start-requires
-first-start-requires c κs =
+bounded-start-requires : tie.Need-bounded-start-requires
+bounded-start-requires c κs =
     let a = c .before .before .before .before .before .before .before .before .args in
     let p = passed (c .before .before) in
     let n = c .before .before .before .before .search-all .result .count in
@@ -69,7 +68,7 @@ returns-3 c =
     let a = c .before .before .before .before .before .before .before .before .before .before .args in
     let to : ℕ = (a .n - a .w) / 64 in
     let e = c .before .before .before .entering-below in
-    let d = c .before .first-start in
+    let d = c .before .bounded-start in
     last-found (a .words .now) (a .n) (a .w) (a .m) (64 * to) ((a .n - a .w) % 64) (c .before .before .before .before .before .before .search-all .result .count)
     (getD (a .words .now) to 0) (e .result) (d .result) (omega arith) (omega arith) (omega arith) (passed (c .before .before .before .before)) (λ q l. sym (word-bit (a .words .now) to q l)) (e .ensures)
     (d .ensures) (omega (arith, c .if3 .taken))
@@ -79,7 +78,7 @@ returns-4 c =
     let a = c .before .before .before .before .before .before .before .before .before .before .args in
     let to : ℕ = (a .n - a .w) / 64 in
     let e = c .before .before .before .entering-below in
-    let d = c .before .first-start in
+    let d = c .before .bounded-start in
     last-none (a .words .now) (a .n) (a .w) (a .m) (64 * to) ((a .n - a .w) % 64) (c .before .before .before .before .before .before .search-all .result .count)
     (getD (a .words .now) to 0) (e .result) (d .result) (omega arith) (omega arith) (omega arith) (passed (c .before .before .before .before)) (λ q l. sym (word-bit (a .words .now) to q l)) (e .ensures)
     (d .ensures) (omega (arith, c .if3 .left))
@@ -94,10 +93,10 @@ first-window-spec =
     mul-if2
     returns-2
     entering-below-requires
-    mul-first-start
-    shared-slice-read-first-start
-    add-first-start
-    first-start-requires
+    mul-bounded-start
+    shared-slice-read-bounded-start
+    add-bounded-start
+    bounded-start-requires
     mul-result
     add-result
     returns-3

@@ -1,6 +1,6 @@
 -- `bursts::search::search_words` meets its contract. The invariant: no start before word j serves, and what the window there holds. Assumes nothing.
 use mathlib.Core.Path.{refl}
-use Prim.Native.Nat.{ℕ, _+_, _-_, _*_, _≤_}
+use Prim.Native.Nat.{_+_, _-_, _*_, _≤_}
 use native.Mathlib.Omega.{arith}
 use borrow.Author.Needs.{needs}
 use Rattle.bursts.specs.Working.{Holds}

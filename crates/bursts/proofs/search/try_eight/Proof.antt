@@ -1,5 +1,5 @@
 -- `bursts::search::try_eight` meets its contract. The invariant: no start before word j + i serves, and what the window there holds. Assumes nothing.
-use Prim.Native.Nat.{ℕ, _+_, _-_, _*_, _≤_}
+use Prim.Native.Nat.{_+_, _-_, _*_, _≤_}
 use native.Mathlib.Omega.{arith}
 use lib.ListN.{getD}
 use Rattle.bursts.specs.Working.{Holds}

@@ -1,12 +1,11 @@
 -- `bursts::window::entering_ones` meets its contract. The invariant: the numbers before i are the ones of the runs. Assumes nothing.
-use mathlib.Core.Path.{_≡_, refl, sym, ap, _∙_}
+use mathlib.Core.Path.{_≡_, refl, ap, _∙_}
 use Prim.Native.Nat.{ℕ, _+_, _-_, _*_, _≤_, _<_}
 use native.Mathlib.Omega.{arith}
 use borrow.Author.Needs.{needs}
 use lib.ListN.{length, getD, length-set}
 use Rattle.words.specs.Bits.{bitAt}
 use Rattle.words.proofs.Sums.{stored-more}
-use Rattle.words.proofs.WordLaws.{word-bit}
 use Rattle.bursts.specs.Working.{runOnes}
 use Rattle.bursts.proofs.WindowLaws.{run-word}
 use Rattle.bursts.proofs.window.entering_ones.Statement.{statement}

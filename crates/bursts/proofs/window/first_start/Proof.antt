@@ -1,5 +1,5 @@
 -- `bursts::window::first_start` meets its contract. The invariant: no start before d serves, and what is held and needed there. Assumes nothing.
-use mathlib.Core.Path.{_≡_, refl}
+use mathlib.Core.Path.{_≡_}
 use Prim.Native.Nat.{ℕ, _+_, _-_, _≤_, _<_}
 use native.Mathlib.Omega.{arith}
 use Rattle.words.specs.Bits.{bit, ones}

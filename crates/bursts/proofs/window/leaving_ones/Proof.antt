@@ -1,5 +1,6 @@
 -- `bursts::window::leaving_ones` meets its contract. The invariant: the numbers before i are the ones of the runs. Assumes nothing.
 use mathlib.Core.Path.{_≡_, refl, sym, ap, _∙_}
+use mathlib.Core.List.{List}
 use Prim.Native.Nat.{ℕ, _+_, _-_, _*_, _≤_, _<_}
 use native.Mathlib.Omega.{arith}
 use borrow.Author.Needs.{needs}
@@ -46,7 +47,7 @@ loop-less : tie.Need-loop-less Inv-loop μ-loop
 loop-less c = omega arith
 
 -- the bits of word j + i are those of run i
-run : (ws : mathlib.Core.List.List ℕ) (j i p : ℕ) → p < 64 → bit (getD ws (j + i) 0) p ≡ bitAt ws (64 * j + 64 * i + p)
+run : (ws : List ℕ) (j i p : ℕ) → p < 64 → bit (getD ws (j + i) 0) p ≡ bitAt ws (64 * j + 64 * i + p)
 run ws j i p l = let e : 64 * (j + i) + p ≡ 64 * j + 64 * i + p = omega arith in sym (word-bit ws (j + i) p l) ∙ ap (bitAt ws) e
 
 loop-again : tie.Need-loop-again Inv-loop μ-loop
