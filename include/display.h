@@ -53,7 +53,7 @@ enum strip_refusal {
                                  image_record_size: a length above 134,217,728 */
     STRIP_SPAN = 5,           /* a span whose start is above its end */
     STRIP_NOT_FOUND = 6,      /* no such position; for a select: k not below the number of v.
-                                 strip_burst: no window of w strokes inside the strip holds m misfires.
+                                 strip_burst: no window of w strokes inside the strip holds m misfires or more.
                                  strip_pair_find: k not below the number of strokes judged differently.
                                  strip_waiting_find: no outcome has a k-th misfire */
     STRIP_FULL = 7,           /* length at capacity */

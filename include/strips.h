@@ -224,7 +224,7 @@ uint64_t strip_predecessor(uint64_t capacity, uint64_t length, const uint64_t *w
  *   w = 0 or above 65,536     refused 17
  *   m = 0 or above w          refused 17
  *   w above the length        refused 6, in an empty strip for every w from 1 to 65,536
- *   w = length                0 where the strip holds m ones, else refused 6
+ *   w = length                0 where the strip holds at least m ones, else refused 6
  *   m = w                     the start of w ones in a row, or refused 6
  *   no window qualifies       refused 6; ones at and past the length complete none */
 uint64_t strip_burst(uint64_t capacity, uint64_t length, const uint64_t *words, size_t words_len, uint64_t w,
