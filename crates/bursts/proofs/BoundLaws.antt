@@ -9,7 +9,7 @@ use lib.ListN.{getD}
 use Rattle.words.specs.Bits.{bitAt, ones}
 use Rattle.words.proofs.Sums.{sum-mono, ones-le}
 use Rattle.words.proofs.WordLaws.{bitAt-le}
-use Rattle.bursts.specs.Working.{Holds, NoneIn, RunOnes}
+use Rattle.bursts.specs.Working.{Holds, NoneIn, EightRuns}
 use Rattle.bursts.proofs.WindowLaws.{holds-run, none-short, none-join, none-empty, Passed}
 
 -- ---- the bound of the words from position a on
@@ -30,12 +30,12 @@ bounded-none ws w m a c h =
     }
 
 -- a run's ones with those before it
-run-next : (ws : List ℕ) (a i : ℕ) (xs : List ℕ) → i < 8 → RunOnes ws a xs → ones (bitAt ws) (a + 64 * i) + getD xs i 0 ≡ ones (bitAt ws) (a + 64 * (i + 1))
+run-next : (ws : List ℕ) (a i : ℕ) (xs : List ℕ) → i < 8 → EightRuns ws a xs → ones (bitAt ws) (a + 64 * i) + getD xs i 0 ≡ ones (bitAt ws) (a + 64 * (i + 1))
 run-next ws a i xs l r = let e : a + 64 * i + 64 ≡ a + 64 * (i + 1) = omega arith in holds-run ws a (a + 64 * i) i xs refl l r ∙ ap (ones (bitAt ws)) e
 
 -- one word more
-module _ {ws : List ℕ} {w m a have need : ℕ} {reached : Bool} {i : ℕ} {leaves enters : List ℕ} (b : Bounded ws w m a have need reached i) (ls : RunOnes ws a leaves)
-    (es : RunOnes ws (a + w) enters) (l : i < 8) where
+module _ {ws : List ℕ} {w m a have need : ℕ} {reached : Bool} {i : ℕ} {leaves enters : List ℕ} (b : Bounded ws w m a have need reached i) (ls : EightRuns ws a leaves)
+    (es : EightRuns ws (a + w) enters) (l : i < 8) where
   held-more : ones (bitAt ws) a + (have + getD enters i 0) ≡ ones (bitAt ws) (a + w + 64 * (i + 1))
   held-more = omega (arith, b .held, run-next ws (a + w) i enters l es)
 

@@ -10,7 +10,7 @@ use Rattle.words.specs.Bits.{bit, bitAt, ones}
 use Rattle.words.proofs.Sums.{lt-or, sum-mono, sum-split, sum-ext, ones-le, part-ones}
 use Rattle.words.proofs.BitLaws.{bit-shr, bit-mod, bit-high, bit-shl-at, bit-shl-below, bit-or}
 use Rattle.words.proofs.WordLaws.{word-bit, bitAt-le}
-use Rattle.bursts.specs.Working.{Holds, Reaches, NoneIn, FirstIn, Searched, FirstBelow, FirstStart, Following, runOnes, RunOnes}
+use Rattle.bursts.specs.Working.{Holds, Reaches, NoneIn, FirstIn, Searched, FirstBelow, FirstStart, Following, runOnes, EightRuns}
 
 -- what holds below n and of n
 pub below-more : (P : ℕ → Type 0) (n : ℕ) → ((s : ℕ) → s < n → P s) → P n → (s : ℕ) → s < n + 1 → P s
@@ -91,7 +91,7 @@ holds-word ws j v e = holds-bits ws (64 * j) (getD ws j 0) v (λ p l. sym (word-
 pub run-word : (ws : List ℕ) (a i x v : ℕ) → ((p : ℕ) → p < 64 → bit x p ≡ bitAt ws (a + 64 * i + p)) → v ≡ ones (bit x) 64 → v ≡ runOnes ws a i
 run-word ws a i x v bits e = e ∙ sum-ext (bit x) (λ p. bitAt ws (a + 64 * i + p)) 64 bits
 
-pub holds-run : (ws : List ℕ) (a b i : ℕ) (xs : List ℕ) → b ≡ a + 64 * i → i < 8 → RunOnes ws a xs → Holds ws 64 b (getD xs i 0)
+pub holds-run : (ws : List ℕ) (a b i : ℕ) (xs : List ℕ) → b ≡ a + 64 * i → i < 8 → EightRuns ws a xs → Holds ws 64 b (getD xs i 0)
 holds-run ws a b i xs e l r = omega (arith, r .each i l, sum-split (bitAt ws) (a + 64 * i) 64, ap (ones (bitAt ws)) e, ap (λ (q : ℕ). ones (bitAt ws) (q + 64)) e)
 
 -- a window and the 64 positions past it, which hold v
@@ -264,7 +264,7 @@ module _ (ws : List ℕ) (n w m a k c x e d : ℕ) (en : n ≡ a + w + k) (lw : 
   ruled : NoneIn ws w m 0 (a + d)
   ruled = none-join ws w m 0 a (a + d) (p .none) (tried-none ws w a c x e k (p .holds) xs enters m (k + 1) d (omega arith) (omega arith) first)
 
-  pub last-found : d ≤ k → FirstBelow ws n w m (a + d)
+  last-found : d ≤ k → FirstBelow ws n w m (a + d)
   last-found l =
       record {
         within = omega arith;
@@ -272,5 +272,8 @@ module _ (ws : List ℕ) (n w m a k c x e d : ℕ) (en : n ≡ a + w + k) (lw : 
         hit = (λ h. (omega arith, tried-hit ws w a c x e k (p .holds) xs enters m (k + 1) d (omega arith) (omega arith) first (omega arith)));
       }
 
-  pub last-none : k < d → FirstBelow ws n w m n
+  last-none : k < d → FirstBelow ws n w m n
   last-none l = record { within = omega arith; none = (λ s h t. ruled s (omega arith) (omega arith)); hit = (λ h. absurd (omega arith)) }
+
+  pub last-start : (d ≤ k → FirstBelow ws n w m (a + d)) × (k < d → FirstBelow ws n w m n)
+  last-start = (last-found, last-none)

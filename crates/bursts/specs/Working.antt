@@ -52,6 +52,6 @@ abbrev pub runOnes : List ℕ → ℕ → ℕ → ℕ
 runOnes ws a i = ones (λ p. bitAt ws (a + 64 * i + p)) 64
 
 -- the eight numbers are the ones of the first eight runs
-pub record RunOnes (ws : List ℕ) (a : ℕ) (xs : List ℕ) : Type 0 where
+pub record EightRuns (ws : List ℕ) (a : ℕ) (xs : List ℕ) : Type 0 where
   pub long : length xs ≡ 8
   pub each : (i : ℕ) → i < 8 → getD xs i 0 ≡ runOnes ws a i

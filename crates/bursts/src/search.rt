@@ -5,7 +5,7 @@ ghost use lib.ListN.{length};
 ghost use Rattle.words.specs.Bits.{bit, bitAt};
 ghost use Rattle.words.specs.Handles.{mostBits, wordsOf};
 ghost use Rattle.bursts.specs.Calls.{mostWidth};
-ghost use Rattle.bursts.specs.Working.{Holds, RunOnes, Searched, FirstBelow};
+ghost use Rattle.bursts.specs.Working.{Holds, EightRuns, Searched, FirstBelow};
 use super::window::bounded_start;
 use super::window::entering;
 use super::window::entering_ones;
@@ -54,7 +54,7 @@ fn try_eight(
     enters: [usize; 8],
 ) -> Search
     requires { ⌜ (1 ≤ w) × (w ≤ mostWidth) × (m ≤ mostWidth) × (j + 8 ≤ wordsOf mostBits) × (64 * (j + 8) + w ≤ 64 * length (now words)) × Holds (now words) w (64 * j) c
-        × RunOnes (now words) (64 * j) leaves × RunOnes (now words) (64 * j + w) enters ⌝ }
+        × EightRuns (now words) (64 * j) leaves × EightRuns (now words) (64 * j + w) enters ⌝ }
     ensures { λ r. ⌜ Searched (now (words .entry)) w m (64 * j) (64 * (j + 8)) (r .start) (r .count) ⌝ }
 {
     let mut count = c;

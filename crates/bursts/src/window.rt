@@ -1,11 +1,11 @@
 // Windows of w positions that start in one word: the first that holds m ones; and the ones that leave and enter as a window moves on over eight words.
 ghost use mathlib.Core.Path.{_≡_};
-ghost use Prim.Native.Nat.{ℕ, _+_, _-_, _*_, _/_, _<_, _≤_};
+ghost use Prim.Native.Nat.{ℕ, _+_, _*_, _<_, _≤_};
 ghost use lib.ListN.{length};
 ghost use Rattle.words.specs.Bits.{bit, bitAt};
 ghost use Rattle.words.specs.Handles.{mostBits, wordsOf};
 ghost use Rattle.bursts.specs.Calls.{mostWidth};
-ghost use Rattle.bursts.specs.Working.{Holds, FirstIn, FirstStart, Following, RunOnes};
+ghost use Rattle.bursts.specs.Working.{Holds, FirstIn, FirstStart, Following, EightRuns};
 use words::bit_of;
 use words::ones_of;
 
@@ -58,7 +58,7 @@ pub fn bounded_start(x: u64, e: u64, c: usize, m: usize, k: usize) -> usize
 }
 
 // The first start in word j whose window holds at least m ones, or the next word's first position. That of word j holds c; with the 64 positions past it, `most`:
-// no window that starts in the word holds more, and only where these reach m is the word read and are its starts tried.
+// no window that starts in the word holds more. Only where `most` reaches m is the word read here, and its starts tried.
 pub fn start_in_word(words: &[u64], w: usize, m: usize, j: usize, c: usize, most: usize) -> usize
     requires { ⌜ (1 ≤ w) × (w ≤ mostWidth) × (m ≤ mostWidth) × (j ≤ wordsOf mostBits) × (64 * (j + 1) + w ≤ 64 * length (now words)) × Holds (now words) w (64 * j) c × Holds (now words) (w + 64) (64 * j) most ⌝ }
     ensures { λ r. ⌜ FirstIn (now (words .entry)) w m (64 * j) (64 * (j + 1)) r ⌝ }
@@ -72,7 +72,7 @@ pub fn start_in_word(words: &[u64], w: usize, m: usize, j: usize, c: usize, most
 // The ones of each of the eight words from word j on.
 pub fn leaving_ones(words: &[u64], j: usize) -> [usize; 8]
     requires { ⌜ j + 8 ≤ length (now words) ⌝ }
-    ensures { λ r. ⌜ RunOnes (now (words .entry)) (64 * j) r ⌝ }
+    ensures { λ r. ⌜ EightRuns (now (words .entry)) (64 * j) r ⌝ }
 {
     let mut counts = [0usize; 8];
     for i in 0..8 {
@@ -84,7 +84,7 @@ pub fn leaving_ones(words: &[u64], j: usize) -> [usize; 8]
 // The ones of each of the eight runs of 64 positions past the window that starts with word j.
 pub fn entering_ones(words: &[u64], w: usize, j: usize) -> [usize; 8]
     requires { ⌜ (1 ≤ w) × (w ≤ mostWidth) × (j + 8 ≤ wordsOf mostBits) × (64 * (j + 8) + w ≤ 64 * length (now words)) ⌝ }
-    ensures { λ r. ⌜ RunOnes (now (words .entry)) (64 * j + w) r ⌝ }
+    ensures { λ r. ⌜ EightRuns (now (words .entry)) (64 * j + w) r ⌝ }
 {
     let mut counts = [0usize; 8];
     for i in 0..8 {

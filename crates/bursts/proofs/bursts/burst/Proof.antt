@@ -3,9 +3,9 @@ use native.Mathlib.Omega.{arith}
 use borrow.Author.Needs.{needs}
 use lib.ListN.{length}
 use Rattle.words.specs.Strip.{stripOf}
-use Rattle.words.specs.Refusals.{value, refused}
+use Rattle.words.specs.Refusals.{Told, value, refused}
 use Rattle.words.proofs.CheckLaws.{judged-pass, right-refused, right-passed}
-use Rattle.bursts.specs.Calls.{burstTable, RightBurst}
+use Rattle.bursts.specs.Calls.{burstTable, RightBurst, Burst}
 use Rattle.bursts.proofs.BurstLaws.{CheckedBurst, checked-burst, burst-room, burst-found, burst-none}
 use Rattle.bursts.proofs.bursts.burst.Statement.{statement}
 use Rattle.bursts.proofs.bursts.burst.Tie as tie
@@ -41,22 +41,27 @@ returns c =
     right-refused (burstTable (a .h) (length (a .words .now)) (a .w) (a .m)) (v .result) refused (RightBurst (stripOf (a .words .now) (a .h .length)) (a .w) (a .m))
     (v .ensures) (c .before .r .given .0 .0) (c .before .r .given .1)
 
+-- past the checks any answer that is right will do
+late : (c : tie.After-first-window) (t : Told)
+    → let a = c .before .before .before .before .before .args in
+    RightBurst (stripOf (a .words .now) (a .h .length)) (a .w) (a .m) t → Burst (a .h) (a .words .now) (a .w) (a .m) t
+late c t right =
+    let a = c .before .before .before .before .before .args in
+    let v = c .before .before .before .check-burst in
+    right-passed (burstTable (a .h) (length (a .words .now)) (a .w) (a .m)) (v .result) refused (RightBurst (stripOf (a .words .now) (a .h .length)) (a .w) (a .m))
+    (v .ensures) t (c .before .enum-told .given .1) right
+
 returns-2 : tie.Need-returns-2
 returns-2 c =
     let a = c .before .before .before .before .before .before .args in
-    let v = c .before .before .before .before .check-burst in
     let f = c .before .first-window in
-    right-passed (burstTable (a .h) (length (a .words .now)) (a .w) (a .m)) (v .result) refused (RightBurst (stripOf (a .words .now) (a .h .length)) (a .w) (a .m))
-    (v .ensures) (value (f .result)) (c .before .before .enum-told .given .1)
-    (burst-found (a .words .now) (a .h .length) (a .w) (a .m) (f .result) (f .ensures) (c .if1 .taken))
+    late (c .before) (value (f .result)) (burst-found (a .words .now) (a .h .length) (a .w) (a .m) (f .result) (f .ensures) (c .if1 .taken))
 
 returns-3 : tie.Need-returns-3
 returns-3 c =
     let a = c .before .before .before .before .before .before .args in
-    let v = c .before .before .before .before .check-burst in
     let f = c .before .first-window in
-    right-passed (burstTable (a .h) (length (a .words .now)) (a .w) (a .m)) (v .result) refused (RightBurst (stripOf (a .words .now) (a .h .length)) (a .w) (a .m))
-    (v .ensures) (refused 6) (c .before .before .enum-told .given .1)
+    late (c .before) (refused 6)
     (burst-none (a .words .now) (a .h .length) (a .w) (a .m) (f .result) (known (c .before .before) .some) (f .ensures) (c .if1 .left))
 
 pub burst-spec : {M : Type 1} → statement M

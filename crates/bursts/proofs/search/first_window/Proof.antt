@@ -1,11 +1,12 @@
 -- `bursts::search::first_window` meets its contract: the starts of whole words, then those of the last word with a start. Assumes nothing.
 use mathlib.Core.Path.{sym}
-use Prim.Native.Nat.{ℕ, _-_, _*_, _/_, _%_}
+use Prim.Native.Nat.{ℕ, _+_, _-_, _*_, _/_, _%_, _≤_, _<_}
 use native.Mathlib.Omega.{arith}
 use borrow.Author.Needs.{needs}
 use lib.ListN.{getD}
 use Rattle.words.proofs.WordLaws.{word-bit}
-use Rattle.bursts.proofs.WindowLaws.{holds-first, holds-le, Passed, below-found, searched-passed, last-found, last-none}
+use Rattle.bursts.specs.Working.{FirstBelow}
+use Rattle.bursts.proofs.WindowLaws.{holds-first, holds-le, Passed, below-found, searched-passed, last-start}
 use Rattle.bursts.proofs.search.first_window.Statement.{statement}
 use Rattle.bursts.proofs.search.first_window.Tie as tie
 
@@ -63,25 +64,27 @@ mul-result c = search needs
 add-result : tie.Need-add-result
 add-result c = search needs
 
-returns-3 : tie.Need-returns-3
-returns-3 c =
-    let a = c .before .before .before .before .before .before .before .before .before .before .args in
+-- the starts of the last word with one: the first that serves, or none
+last : (c : tie.After-bounded-start)
+    → let a = c .before .before .before .before .before .before .before .before .before .args in
     let to : ℕ = (a .n - a .w) / 64 in
-    let e = c .before .before .before .entering-below in
-    let d = c .before .bounded-start in
-    last-found (a .words .now) (a .n) (a .w) (a .m) (64 * to) ((a .n - a .w) % 64) (c .before .before .before .before .before .before .search-all .result .count)
-    (getD (a .words .now) to 0) (e .result) (d .result) (omega arith) (omega arith) (omega arith) (passed (c .before .before .before .before)) (λ q l. sym (word-bit (a .words .now) to q l)) (e .ensures)
-    (d .ensures) (omega (arith, c .if3 .taken))
+    let d = c .bounded-start .result in
+    (d ≤ (a .n - a .w) % 64 → FirstBelow (a .words .now) (a .n) (a .w) (a .m) (64 * to + d))
+    × ((a .n - a .w) % 64 < d → FirstBelow (a .words .now) (a .n) (a .w) (a .m) (a .n))
+last c =
+    let a = c .before .before .before .before .before .before .before .before .before .args in
+    let to : ℕ = (a .n - a .w) / 64 in
+    let e = c .before .before .entering-below in
+    let d = c .bounded-start in
+    last-start (a .words .now) (a .n) (a .w) (a .m) (64 * to) ((a .n - a .w) % 64) (c .before .before .before .before .before .search-all .result .count)
+    (getD (a .words .now) to 0) (e .result) (d .result) (omega arith) (omega arith) (omega arith) (passed (c .before .before .before)) (λ q l. sym (word-bit (a .words .now) to q l)) (e .ensures)
+    (d .ensures)
+
+returns-3 : tie.Need-returns-3
+returns-3 c = last (c .before) .0 (omega (arith, c .if3 .taken))
 
 returns-4 : tie.Need-returns-4
-returns-4 c =
-    let a = c .before .before .before .before .before .before .before .before .before .before .args in
-    let to : ℕ = (a .n - a .w) / 64 in
-    let e = c .before .before .before .entering-below in
-    let d = c .before .bounded-start in
-    last-none (a .words .now) (a .n) (a .w) (a .m) (64 * to) ((a .n - a .w) % 64) (c .before .before .before .before .before .before .search-all .result .count)
-    (getD (a .words .now) to 0) (e .result) (d .result) (omega arith) (omega arith) (omega arith) (passed (c .before .before .before .before)) (λ q l. sym (word-bit (a .words .now) to q l)) (e .ensures)
-    (d .ensures) (omega (arith, c .if3 .left))
+returns-4 c = last (c .before) .1 (omega (arith, c .if3 .left))
 
 pub first-window-spec : {M : Type 1} → statement M
 first-window-spec =
