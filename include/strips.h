@@ -36,11 +36,11 @@
  *
  * TIME. strip_create, strip_fill, strip_truncate and strip_verify go over all words and counters, strip_successor and
  * strip_predecessor from word to word up to the first hit, image_freeze over the words up to the length. strip_burst
- * goes over the words up to the window that it answers, or to the length, with three reads of words for each; the
- * windows that start in one word are tried start by start only where a bound on their ones reaches m. The calls on two
- * strips go over the words of both, each word once: those before i, those up to the stroke found or to the length,
- * those of the span; strip_waiting_find up to the latest position, where there is one, else to the length. The other
- * calls on a strip take constant time.
+ * goes over the words up to the window that it answers, and at most eight past it, or to the length, with three reads
+ * of words for each; the windows that start in one word are tried start by start only where a bound on their ones
+ * reaches m. The calls on two strips go over the words of both, each word once: those before i, those up to the stroke
+ * found or to the length, those of the span; strip_waiting_find up to the latest position, where there is one, else to
+ * the length. The other calls on a strip take constant time.
  */
 #ifndef STRIPS_H
 #define STRIPS_H

@@ -83,7 +83,7 @@ static void expect_borders(void)
             struct row room;
             struct opened strip = open_strip(&room, CAPACITY, small[l], words, CAPACITY / 64);
             uint64_t most = w < 1 || w > small[l] ? 1 : most_ones(strip.row, w);
-            for (uint64_t m = most - 1; m <= most + 1; m++)
+            for (uint64_t m = most == 0 ? 0 : most - 1; m <= most + 1; m++)
                 hold_burst(CAPACITY, small[l], words, CAPACITY / 64, w, m);
             hold_burst(CAPACITY, small[l], words, CAPACITY / 64, w, w);
             hold_burst(CAPACITY, small[l], words, CAPACITY / 64, w, w + 1);
@@ -107,7 +107,7 @@ static void expect_every_start(uint64_t w)
     }
 }
 
-/* A one at the end alone: of windows of w strokes that hold it there is the last. */
+/* A one at the last stroke alone: of the windows of w strokes the last alone holds it. */
 static void expect_last_start(uint64_t w)
 {
     enum { CAPACITY = 1024, LENGTH = 1000 };

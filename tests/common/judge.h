@@ -330,7 +330,7 @@ static inline uint64_t most_ones(const struct row *row, uint64_t w)
     return most;
 }
 
-/* Whether burst(w, m) may tell this: the start of any window that holds m ones; 6 where there is none. */
+/* Whether burst(w, m) may tell this: the start of any window that holds at least m ones; 6 where there is none. */
 static inline int burst_allowed(struct opened o, uint64_t w, uint64_t m, uint64_t told)
 {
     uint64_t refused = burst_refused(o, w, m);

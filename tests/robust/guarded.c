@@ -403,7 +403,8 @@ static uint64_t width(uint64_t length)
 /* burst, held to the judge: m at times around the most that a window holds. */
 static void seek_burst(struct record *r)
 {
-    uint64_t c = some_capacity(r), n = some_length(r), w = width(r->length), m = one_in(2) ? 1 : near(w);
+    uint64_t c = some_capacity(r), n = some_length(r), w = width(r->length);
+    uint64_t m = one_in(2) ? 1 : one_in(4) ? WIDE + 1 : near(w);
     struct row room;
     struct opened strip = open_strip(&room, c, n, r->words.write, r->words.length / 8);
     if (burst_refused(strip, w, 1) == 0 && !one_in(4))

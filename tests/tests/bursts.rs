@@ -257,7 +257,7 @@ fn widest_windows() {
 
 // ---- strips of every length and density, against the model
 
-/// None, few, half and all ones.
+/// None, few, half, most and all ones, of 1,000.
 const SHARES: [usize; 6] = [0, 3, 50, 500, 950, 1000];
 
 /// Bits of which so many in 1,000 are ones below the length, and so many past it.

@@ -3,7 +3,7 @@
 use mathlib.Core.Path.{_≡_, refl, sym, ap, ap₂, _∙_}
 use mathlib.Core.List.{List}
 use Prim.Native.Nat.{ℕ, zero, suc, min, max, _+_, _-_, _*_, _/_, _%_, _^_, _≤_, _<_}
-use native.Mathlib.Nat.{add-sub-of-le, le-refl}
+use native.Mathlib.Nat.{le-refl}
 use native.Mathlib.Omega.{arith}
 use lib.ListN.{length, getD}
 use lib.Bits.{bitAnd, bitOr, bitXor}
@@ -11,11 +11,11 @@ use lib.Bits as B
 use Rattle.words.specs.Bits.{bit, bitAt, ones, listOf}
 use Rattle.words.specs.Strip.{cell, stripOf, rankOf, selectOf, rank, select}
 use Rattle.words.specs.Words.{placeIn, selectIn}
-use Rattle.words.proofs.Sums.{ones-le, sum-split, length-listOf, getD-listOf, listOf-is}
+use Rattle.words.proofs.Sums.{length-listOf, getD-listOf, listOf-is}
 use Rattle.words.proofs.BitLaws.{bit-le, bit-and, bit-or, bit-xor, bit-not}
-use Rattle.words.proofs.WordLaws.{bitAt-le, word-bit}
+use Rattle.words.proofs.WordLaws.{word-bit}
 use Rattle.words.proofs.SearchLaws.{rank-part, rank-ones, part-select}
-use Rattle.words.proofs.StripLaws.{strip-cell, strip-length, strip-le, strip-rank, listed-rank, listed-select}
+use Rattle.words.proofs.StripLaws.{strip-cell, strip-length, listed-rank, listed-select}
 use Rattle.pairs.specs.Rules.{both, either, onlyFirst, differ, joined}
 use Rattle.pairs.specs.Working.{JoinedWord, joinedBit}
 

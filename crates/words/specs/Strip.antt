@@ -1,4 +1,4 @@
--- The strip, and count, find, next and prior over it, by their standard names. Assumes nothing.
+-- The strip, count, find, next and prior over it, by their standard names, and the ones of a span. Assumes nothing.
 use Prim.Native.Nat.{ℕ, zero, suc, min, _+_, _-_, _≤_}
 use mathlib.Core.Path.{_≡_}
 use mathlib.Core.Bool.{Bool, cond, _&&_}
