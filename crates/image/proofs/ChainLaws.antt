@@ -17,10 +17,12 @@ use Rattle.words.specs.Refusals.{numberOf, judge, unless, value, refused, toldO
 use Rattle.words.proofs.BoolLaws.{and-first, and-second, not-not}
 use Rattle.words.proofs.CheckLaws.{passes}
 use Rattle.image.specs.Bytes.{num}
-use Rattle.image.specs.Layout.{unitBytes, headBytes, kind, mostBytes, mostLabel, mostRow}
-use Rattle.image.specs.Chain.{nextAt, labelAt, lengthAt, endAt, goodLabel, goodFields, goodSize, soundHeader, soundRecord, among, inFront, chainFrom, chainOf, placeOf, chainEnd, linkOf}
+use Rattle.image.specs.Kinds.{Kind, kinds, isKind}
+use Rattle.image.specs.Layout.{unitBytes, headBytes, mostBytes, mostLabel, mostRow}
+use Rattle.image.specs.Chain.{kindOf, nextAt, labelAt, lengthAt, endAt, goodLabel, goodFields, goodSize, soundHeader, soundRecord, among, inFront, chainFrom, chainOf, placeOf, chainEnd, linkOf}
 use Rattle.image.specs.Rows.{partAt}
 use Rattle.image.specs.Calls.{isSome, recordsIn, recordsOf, recordWith, rowPlace, rowPart, openTable, openTold, openPart}
+use Rattle.image.proofs.KindLaws.{KindFits, size-units, image-fits}
 
 -- ---- the header and a record
 -- a test that holds exactly where the facts do
@@ -61,7 +63,7 @@ fields-facts s a h =
 pub record HeaderFacts (s : List ℕ) : Type 0 where
   pub least : unitBytes ≤ length s
   pub most : length s ≤ mostBytes
-  pub kinds : num s 4 4 ≡ kind
+  pub kind : isKind kinds (num s 4 4) ≡ true
   pub zeros : num s 8 8 ≡ 0
 
 -- a sound header has the facts
@@ -73,23 +75,23 @@ header-facts s h =
     record {
       least = h1 .0;
       most = h1 .1;
-      kinds = eqb-true _ _ (and-first (eqb (num s 4 4) kind) _ h2);
-      zeros = eqb-true _ _ (and-second (eqb (num s 4 4) kind) _ h2);
+      kind = and-first (isKind kinds (num s 4 4)) _ h2;
+      zeros = eqb-true _ _ (and-second (isKind kinds (num s 4 4)) _ h2);
     }
 
 -- and the facts make it sound
 pub header-sound : (s : List ℕ) → HeaderFacts s → soundHeader s ≡ true
 unfolding soundHeader
-header-sound s f = simp (size-good (length s) (f .least) (f .most), eq-eqb _ _ (f .kinds), eq-eqb _ _ (f .zeros))
+header-sound s f = simp (size-good (length s) (f .least) (f .most), f .kind, eq-eqb _ _ (f .zeros))
 
 -- what a sound record is known for
-pub record RecordFacts (s : List ℕ) (a : ℕ) : Type 0 where
+pub record RecordFacts (K : Kind) (s : List ℕ) (a : ℕ) : Type 0 where
   pub room : a + headBytes ≤ length s
   pub low : 1 ≤ labelAt s a
   pub high : labelAt s a ≤ mostLabel
   pub short : lengthAt s a ≤ mostRow
-  pub inside : endAt s a ≤ length s
-  pub ahead : (nextAt s a ≡ 0 → ⊥) → endAt s a ≤ unitBytes * nextAt s a
+  pub inside : endAt K s a ≤ length s
+  pub ahead : (nextAt s a ≡ 0 → ⊥) → endAt K s a ≤ unitBytes * nextAt s a
 
 -- x, or else y
 or-second : (x y : Bool) → x ≡ false → (x || y) ≡ true → y ≡ true
@@ -97,9 +99,9 @@ or-second true y h i = absurd (true≢false h)
 or-second false y h i = i
 
 -- a sound record has the facts
-pub record-facts : (s : List ℕ) (a : ℕ) → soundRecord s a ≡ true → RecordFacts s a
+pub record-facts : (K : Kind) (s : List ℕ) (a : ℕ) → soundRecord K s a ≡ true → RecordFacts K s a
 unfolding soundRecord
-record-facts s a h =
+record-facts K s a h =
     let h1 = and-second (leb (a + headBytes) (length s)) _ h in
     let h2 = and-second (goodFields s a) _ h1 in
     let f = fields-facts s a (and-first (goodFields s a) _ h1) in
@@ -108,17 +110,17 @@ record-facts s a h =
       low = f .0;
       high = f .1;
       short = f .2;
-      inside = leb-true _ _ (and-first (leb (endAt s a) (length s)) _ h2);
-      ahead = λ n. leb-true _ _ (or-second (eqb (nextAt s a) 0) _ (ne-eqb _ _ n) (and-second (leb (endAt s a) (length s)) _ h2));
+      inside = leb-true _ _ (and-first (leb (endAt K s a) (length s)) _ h2);
+      ahead = λ n. leb-true _ _ (or-second (eqb (nextAt s a) 0) _ (ne-eqb _ _ n) (and-second (leb (endAt K s a) (length s)) _ h2));
     }
 
 -- and the facts make it sound
-pub record-sound : (s : List ℕ) (a : ℕ) → RecordFacts s a → soundRecord s a ≡ true
+pub record-sound : (K : Kind) (s : List ℕ) (a : ℕ) → RecordFacts K s a → soundRecord K s a ≡ true
 unfolding soundRecord
-record-sound s a f =
+record-sound K s a f =
     simp (le-leb _ _ (f .room), fields-good s a (f .low) (f .high) (f .short), le-leb _ _ (f .inside)) (go (eqb (nextAt s a) 0) refl)
   where
-    go : (t : Bool) → eqb (nextAt s a) 0 ≡ t → (t || leb (endAt s a) (unitBytes * nextAt s a)) ≡ true
+    go : (t : Bool) → eqb (nextAt s a) 0 ≡ t → (t || leb (endAt K s a) (unitBytes * nextAt s a)) ≡ true
     go true p = refl
     go false p = le-leb _ _ (f .ahead (eqb-false _ _ p))
 
@@ -126,36 +128,36 @@ record-sound s a f =
 pub tells-header : (s : List ℕ) (t : Bool) → (t ≡ true → HeaderFacts s) → (HeaderFacts s → t ≡ true) → t ≡ soundHeader s
 tells-header s t p q = decides t (soundHeader s) p q (header-facts s) (header-sound s)
 
-pub tells-record : (s : List ℕ) (a : ℕ) (t : Bool) → (t ≡ true → RecordFacts s a) → (RecordFacts s a → t ≡ true) → t ≡ soundRecord s a
-tells-record s a t p q = decides t (soundRecord s a) p q (record-facts s a) (record-sound s a)
+pub tells-record : (K : Kind) (s : List ℕ) (a : ℕ) (t : Bool) → (t ≡ true → RecordFacts K s a) → (RecordFacts K s a → t ≡ true) → t ≡ soundRecord K s a
+tells-record K s a t p q = decides t (soundRecord K s a) p q (record-facts K s a) (record-sound K s a)
 
 -- one fact that fails
 pub no-header : (s : List ℕ) → (HeaderFacts s → ⊥) → false ≡ soundHeader s
 no-header s n = tells-header s false (λ e. absurd (false≢true e)) (λ f. absurd (n f))
 
-pub no-record : (s : List ℕ) (a : ℕ) → (RecordFacts s a → ⊥) → false ≡ soundRecord s a
-no-record s a n = tells-record s a false (λ e. absurd (false≢true e)) (λ f. absurd (n f))
+pub no-record : (K : Kind) (s : List ℕ) (a : ℕ) → (RecordFacts K s a → ⊥) → false ≡ soundRecord K s a
+no-record K s a n = tells-record K s a false (λ e. absurd (false≢true e)) (λ f. absurd (n f))
 
 -- ---- the walk of a chain
 -- the records from byte a on, where byte 0 ends the chain
-abbrev pub restFrom : ℕ → List ℕ → ℕ → List ℕ → Option (List ℕ)
-restFrom steps s a met = cond (eqb a 0) (some []) (chainFrom steps s a met)
+abbrev pub restFrom : Kind → ℕ → List ℕ → ℕ → List ℕ → Option (List ℕ)
+restFrom K steps s a met = cond (eqb a 0) (some []) (chainFrom K steps s a met)
 
 -- the end
-pub rest-end : (steps : ℕ) (s : List ℕ) (a : ℕ) (met : List ℕ) → a ≡ 0 → restFrom steps s a met ≡ some []
-rest-end steps s a met z = simp (eq-eqb _ _ z)
+pub rest-end : (K : Kind) (steps : ℕ) (s : List ℕ) (a : ℕ) (met : List ℕ) → a ≡ 0 → restFrom K steps s a met ≡ some []
+rest-end K steps s a met z = simp (eq-eqb _ _ z)
 
 -- a record that is not sound, or whose label was met
-pub rest-unsound : (steps : ℕ) (s : List ℕ) (a : ℕ) (met : List ℕ) → (a ≡ 0 → ⊥) → (soundRecord s a && not (among (labelAt s a) met)) ≡ false
-    → restFrom steps s a met ≡ none
+pub rest-unsound : (K : Kind) (steps : ℕ) (s : List ℕ) (a : ℕ) (met : List ℕ) → (a ≡ 0 → ⊥) → (soundRecord K s a && not (among (labelAt s a) met)) ≡ false
+    → restFrom K steps s a met ≡ none
 unfolding chainFrom
-rest-unsound zero s a met n h = simp (ne-eqb _ _ n, chainFrom)
-rest-unsound (suc steps) s a met n h = simp (ne-eqb _ _ n, h, chainFrom)
+rest-unsound K zero s a met n h = simp (ne-eqb _ _ n, chainFrom)
+rest-unsound K (suc steps) s a met n h = simp (ne-eqb _ _ n, h, chainFrom)
 
 -- no steps are left
-rest-zero : (s : List ℕ) (a : ℕ) (met : List ℕ) → (a ≡ 0 → ⊥) → restFrom zero s a met ≡ none
+rest-zero : (K : Kind) (s : List ℕ) (a : ℕ) (met : List ℕ) → (a ≡ 0 → ⊥) → restFrom K zero s a met ≡ none
 unfolding chainFrom
-rest-zero s a met n = simp (ne-eqb _ _ n, chainFrom)
+rest-zero K s a met n = simp (ne-eqb _ _ n, chainFrom)
 
 -- the index zero is byte 0
 units-zero : (x : ℕ) → eqb (unitBytes * x) 0 ≡ eqb x 0
@@ -166,10 +168,10 @@ units-zero x = go (eqb x 0) refl
     go false p = ne-eqb (unitBytes * x) 0 (λ z. eqb-false x 0 p (omega arith))
 
 -- one record more
-pub rest-more : (steps : ℕ) (s : List ℕ) (a : ℕ) (met : List ℕ) → (a ≡ 0 → ⊥) → soundRecord s a ≡ true → among (labelAt s a) met ≡ false
-    → restFrom (suc steps) s a met ≡ inFront a (restFrom steps s (unitBytes * nextAt s a) (labelAt s a ∷ met))
+pub rest-more : (K : Kind) (steps : ℕ) (s : List ℕ) (a : ℕ) (met : List ℕ) → (a ≡ 0 → ⊥) → soundRecord K s a ≡ true → among (labelAt s a) met ≡ false
+    → restFrom K (suc steps) s a met ≡ inFront a (restFrom K steps s (unitBytes * nextAt s a) (labelAt s a ∷ met))
 unfolding chainFrom
-rest-more steps s a met n h i = simp (ne-eqb _ _ n, h, i, units-zero, chainFrom) (go (eqb (nextAt s a) 0) _)
+rest-more K steps s a met n h i = simp (ne-eqb _ _ n, h, i, units-zero, chainFrom) (go (eqb (nextAt s a) 0) _)
   where
     go : (t : Bool) (o : Option (List ℕ)) → elim t [ true ↦ some (a ∷ []) | false ↦ inFront a o ] ≡ inFront a (cond t (some []) o)
     go true o = refl
@@ -181,7 +183,7 @@ unfolding chainOf
 chain-unsound s h = simp (h, chainOf)
 
 -- a chain whose header is sound
-pub chain-rest : (s : List ℕ) → soundHeader s ≡ true → chainOf s ≡ restFrom (length s) s (unitBytes * num s 0 4) []
+pub chain-rest : (s : List ℕ) → soundHeader s ≡ true → chainOf s ≡ restFrom (kindOf s) (length s) s (unitBytes * num s 0 4) []
 unfolding chainOf
 chain-rest s h = simp (h, units-zero, chainOf) (go (eqb (num s 0 4) 0) _)
   where
@@ -190,10 +192,10 @@ chain-rest s h = simp (h, units-zero, chainOf) (go (eqb (num s 0 4) 0) _)
     go false o = refl
 
 -- the records of a chain that stands at byte a, where the labels in `met` were met before
-pub data Links (s : List ℕ) : ℕ → List ℕ → List ℕ → Type 0 where
-  links-end : {met : List ℕ} → Links s 0 met []
-  links-more : {a : ℕ} {met bs : List ℕ} → (a ≡ 0 → ⊥) → RecordFacts s a → among (labelAt s a) met ≡ false
-      → Links s (unitBytes * nextAt s a) (labelAt s a ∷ met) bs → Links s a met (a ∷ bs)
+pub data Links (K : Kind) (s : List ℕ) : ℕ → List ℕ → List ℕ → Type 0 where
+  links-end : {met : List ℕ} → Links K s 0 met []
+  links-more : {a : ℕ} {met bs : List ℕ} → (a ≡ 0 → ⊥) → RecordFacts K s a → among (labelAt s a) met ≡ false
+      → Links K s (unitBytes * nextAt s a) (labelAt s a ∷ met) bs → Links K s a met (a ∷ bs)
 
 -- what a record in front leaves
 front-some : (a : ℕ) (o : Option (List ℕ)) (rs : List ℕ) → inFront a o ≡ some rs → (bs : List ℕ) × (o ≡ some bs) × (rs ≡ a ∷ bs)
@@ -205,86 +207,88 @@ pub none-some : {B : Type 0} {A : Type 0} {o : Option A} {x : A} → o ≡ none 
 none-some p q = no-confusion cc
 
 -- at byte 0 the chain has ended
-at-end : (steps : ℕ) (s : List ℕ) (a : ℕ) (met rs : List ℕ) → restFrom steps s a met ≡ some rs → ((a ≡ 0 → ⊥) → Links s a met rs) → Links s a met rs
-at-end steps s a met rs e go-on = go (eqb a 0) refl
+at-end : (K : Kind) (steps : ℕ) (s : List ℕ) (a : ℕ) (met rs : List ℕ) → restFrom K steps s a met ≡ some rs → ((a ≡ 0 → ⊥) → Links K s a met rs)
+    → Links K s a met rs
+at-end K steps s a met rs e go-on = go (eqb a 0) refl
   where
-    go : (t : Bool) → eqb a 0 ≡ t → Links s a met rs
+    go : (t : Bool) → eqb a 0 ≡ t → Links K s a met rs
     go true p =
         let z : a ≡ 0 = eqb-true _ _ p in
-        let r : rs ≡ [] = cc (rest-end steps s a met z) in
+        let r : rs ≡ [] = cc (rest-end K steps s a met z) in
         rw (z, r) links-end
     go false p = go-on (eqb-false _ _ p)
 
 -- a walk that ends does not stop
-pub not-stopped : (steps : ℕ) (s : List ℕ) (a : ℕ) (met rs : List ℕ) → restFrom steps s a met ≡ some rs → (a ≡ 0 → ⊥)
-    → (soundRecord s a ≡ true) × (among (labelAt s a) met ≡ false)
-not-stopped steps s a met rs e n = go (soundRecord s a) (among (labelAt s a) met) refl refl
+pub not-stopped : (K : Kind) (steps : ℕ) (s : List ℕ) (a : ℕ) (met rs : List ℕ) → restFrom K steps s a met ≡ some rs → (a ≡ 0 → ⊥)
+    → (soundRecord K s a ≡ true) × (among (labelAt s a) met ≡ false)
+not-stopped K steps s a met rs e n = go (soundRecord K s a) (among (labelAt s a) met) refl refl
   where
-    go : (t u : Bool) → soundRecord s a ≡ t → among (labelAt s a) met ≡ u → (soundRecord s a ≡ true) × (among (labelAt s a) met ≡ false)
+    go : (t u : Bool) → soundRecord K s a ≡ t → among (labelAt s a) met ≡ u → (soundRecord K s a ≡ true) × (among (labelAt s a) met ≡ false)
     go true false p q = (p, q)
-    go true true p q = none-some (rest-unsound steps s a met n (simp (p, q))) e
-    go false u p q = none-some (rest-unsound steps s a met n (simp p)) e
+    go true true p q = none-some (rest-unsound K steps s a met n (simp (p, q))) e
+    go false u p q = none-some (rest-unsound K steps s a met n (simp p)) e
 
 -- a walk that ends has such records
-rest-links : (steps : ℕ) (s : List ℕ) (a : ℕ) (met rs : List ℕ) → restFrom steps s a met ≡ some rs → Links s a met rs
-rest-links zero s a met rs e = at-end zero s a met rs e (λ n. none-some (rest-zero s a met n) e)
-rest-links (suc k) s a met rs e =
-    at-end (suc k) s a met rs e (λ n.
-    let q = not-stopped (suc k) s a met rs e n in
-    let f = front-some a (restFrom k s (unitBytes * nextAt s a) (labelAt s a ∷ met)) rs (sym (rest-more k s a met n (q .0) (q .1)) ∙ e) in
-    rw (f .2) (links-more n (record-facts s a (q .0)) (q .1) (rest-links k s (unitBytes * nextAt s a) (labelAt s a ∷ met) (f .0) (f .1))))
+rest-links : (K : Kind) (steps : ℕ) (s : List ℕ) (a : ℕ) (met rs : List ℕ) → restFrom K steps s a met ≡ some rs → Links K s a met rs
+rest-links K zero s a met rs e = at-end K zero s a met rs e (λ n. none-some (rest-zero K s a met n) e)
+rest-links K (suc k) s a met rs e =
+    at-end K (suc k) s a met rs e (λ n.
+    let q = not-stopped K (suc k) s a met rs e n in
+    let f = front-some a (restFrom K k s (unitBytes * nextAt s a) (labelAt s a ∷ met)) rs (sym (rest-more K k s a met n (q .0) (q .1)) ∙ e) in
+    rw (f .2) (links-more n (record-facts K s a (q .0)) (q .1) (rest-links K k s (unitBytes * nextAt s a) (labelAt s a ∷ met) (f .0) (f .1))))
 
 -- and such records make a walk that ends, with steps enough
-links-rest : {s : List ℕ} {a : ℕ} {met rs : List ℕ} (steps : ℕ) → Links s a met rs → ((a ≡ 0 → ⊥) → length s < a + steps) → restFrom steps s a met ≡ some rs
-links-rest {s} {a} {met} steps links-end enough = rest-end steps s 0 met refl
-links-rest {s} {a} {met} zero (links-more n f u l) enough = absurd (omega (arith, enough n, f .room))
-links-rest {s} {a} {met} (suc k) (links-more n f u l) enough =
-    rest-more k s a met n (record-sound s a f) u
+links-rest : {K : Kind} {s : List ℕ} {a : ℕ} {met rs : List ℕ} (steps : ℕ) → Links K s a met rs → ((a ≡ 0 → ⊥) → length s < a + steps)
+    → restFrom K steps s a met ≡ some rs
+links-rest {K} {s} {a} {met} steps links-end enough = rest-end K steps s 0 met refl
+links-rest {K} {s} {a} {met} zero (links-more n f u l) enough = absurd (omega (arith, enough n, f .room))
+links-rest {K} {s} {a} {met} (suc k) (links-more n f u l) enough =
+    rest-more K k s a met n (record-sound K s a f) u
     ∙ ap (inFront a) (links-rest k l (λ m. omega (arith, enough n, f .ahead (λ z. m (omega arith)))))
 
 -- a sound chain is a sound header and such records from the first on
-pub chain-links : (s rs : List ℕ) → chainOf s ≡ some rs → HeaderFacts s × Links s (unitBytes * num s 0 4) [] rs
+pub chain-links : (s rs : List ℕ) → chainOf s ≡ some rs → HeaderFacts s × Links (kindOf s) s (unitBytes * num s 0 4) [] rs
 chain-links s rs e = go (soundHeader s) refl
   where
-    go : (t : Bool) → soundHeader s ≡ t → HeaderFacts s × Links s (unitBytes * num s 0 4) [] rs
-    go true p = (header-facts s p, rest-links (length s) s (unitBytes * num s 0 4) [] rs (sym (chain-rest s p) ∙ e))
+    go : (t : Bool) → soundHeader s ≡ t → HeaderFacts s × Links (kindOf s) s (unitBytes * num s 0 4) [] rs
+    go true p = (header-facts s p, rest-links (kindOf s) (length s) s (unitBytes * num s 0 4) [] rs (sym (chain-rest s p) ∙ e))
     go false p = none-some (chain-unsound s p) e
 
 -- and the other way round
-pub links-chain : (s rs : List ℕ) → HeaderFacts s → Links s (unitBytes * num s 0 4) [] rs → chainOf s ≡ some rs
+pub links-chain : (s rs : List ℕ) → HeaderFacts s → Links (kindOf s) s (unitBytes * num s 0 4) [] rs → chainOf s ≡ some rs
 links-chain s rs h l = chain-rest s (header-sound s h) ∙ links-rest (length s) l (λ n. omega arith)
 
 -- ---- what the records of a sound chain are known for
 -- a record of a chain: sound, at a unit, past the header
-pub record Placed (s : List ℕ) (a : ℕ) : Type 0 where
-  pub facts : RecordFacts s a
+pub record Placed (K : Kind) (s : List ℕ) (a : ℕ) : Type 0 where
+  pub facts : RecordFacts K s a
   pub unit : a % unitBytes ≡ 0
   pub past : unitBytes ≤ a
 
 -- each record
-links-each : {s : List ℕ} {a : ℕ} {met rs : List ℕ} → Links s a met rs → a % unitBytes ≡ 0 → (i : ℕ) → i < length rs → Placed s (getD rs i 0)
+links-each : {K : Kind} {s : List ℕ} {a : ℕ} {met rs : List ℕ} → Links K s a met rs → a % unitBytes ≡ 0 → (i : ℕ) → i < length rs → Placed K s (getD rs i 0)
 links-each links-end z i l = absurd (omega arith)
 links-each (links-more n f u k) z zero l = record { facts = f; unit = z; past = omega arith }
 links-each (links-more n f u k) z (suc i) l = links-each k (omega arith) i (omega arith)
 
 -- where there is a record, the chain has not ended
-pub links-some : {s : List ℕ} {a : ℕ} {met rs : List ℕ} → Links s a met rs → (j : ℕ) → j < length rs → a ≡ 0 → ⊥
+pub links-some : {K : Kind} {s : List ℕ} {a : ℕ} {met rs : List ℕ} → Links K s a met rs → (j : ℕ) → j < length rs → a ≡ 0 → ⊥
 links-some links-end j l = absurd (omega arith)
 links-some (links-more n f u k) j l = n
 
 -- a record ends before the next one
-links-ahead : {s : List ℕ} {a : ℕ} {met bs : List ℕ} → RecordFacts s a → Links s (unitBytes * nextAt s a) met bs → (j : ℕ) → j < length bs
-    → endAt s a ≤ unitBytes * nextAt s a
+links-ahead : {K : Kind} {s : List ℕ} {a : ℕ} {met bs : List ℕ} → RecordFacts K s a → Links K s (unitBytes * nextAt s a) met bs → (j : ℕ) → j < length bs
+    → endAt K s a ≤ unitBytes * nextAt s a
 links-ahead f k j l = f .ahead (λ z. links-some k j l (omega arith))
 
 -- no record is before the first
-links-from : {s : List ℕ} {a : ℕ} {met rs : List ℕ} → Links s a met rs → (j : ℕ) → j < length rs → a ≤ getD rs j 0
+links-from : {K : Kind} {s : List ℕ} {a : ℕ} {met rs : List ℕ} → Links K s a met rs → (j : ℕ) → j < length rs → a ≤ getD rs j 0
 links-from links-end j l = absurd (omega arith)
 links-from (links-more n f u k) zero l = omega arith
 links-from (links-more n f u k) (suc j) l = omega (arith, links-ahead f k j (omega arith), links-from k j (omega arith))
 
 -- nor before the end of an earlier one
-links-order : {s : List ℕ} {a : ℕ} {met rs : List ℕ} → Links s a met rs → (i j : ℕ) → i < j → j < length rs → endAt s (getD rs i 0) ≤ getD rs j 0
+links-order : {K : Kind} {s : List ℕ} {a : ℕ} {met rs : List ℕ} → Links K s a met rs → (i j : ℕ) → i < j → j < length rs → endAt K s (getD rs i 0) ≤ getD rs j 0
 links-order links-end i j h l = absurd (omega arith)
 links-order (links-more n f u k) i zero h l = absurd (omega arith)
 links-order (links-more n f u k) zero (suc j) h l = omega (arith, links-ahead f k j (omega arith), links-from k j (omega arith))
@@ -309,13 +313,13 @@ among-rest x y ys h = or-rest (eqb x y) _ h
     or-rest false u p = p
 
 -- no label was met before
-links-unmet : {s : List ℕ} {a : ℕ} {met rs : List ℕ} → Links s a met rs → (j : ℕ) → j < length rs → among (labelAt s (getD rs j 0)) met ≡ false
+links-unmet : {K : Kind} {s : List ℕ} {a : ℕ} {met rs : List ℕ} → Links K s a met rs → (j : ℕ) → j < length rs → among (labelAt s (getD rs j 0)) met ≡ false
 links-unmet links-end j l = absurd (omega arith)
 links-unmet (links-more n f u k) zero l = u
 links-unmet (links-more n f u k) (suc j) l = among-rest _ _ _ (links-unmet k j (omega arith))
 
 -- labels differ
-links-differ : {s : List ℕ} {a : ℕ} {met rs : List ℕ} → Links s a met rs → (i j : ℕ) → i < j → j < length rs
+links-differ : {K : Kind} {s : List ℕ} {a : ℕ} {met rs : List ℕ} → Links K s a met rs → (i j : ℕ) → i < j → j < length rs
     → labelAt s (getD rs i 0) ≡ labelAt s (getD rs j 0) → ⊥
 links-differ links-end i j h l = absurd (omega arith)
 links-differ (links-more n f u k) i zero h l = absurd (omega arith)
@@ -323,54 +327,54 @@ links-differ (links-more n f u k) zero (suc j) h l = λ e. among-first _ _ _ (li
 links-differ (links-more n f u k) (suc i) (suc j) h l = links-differ k i j (omega arith) (omega arith)
 
 -- what the end of a chain is known for
-pub record EndFacts (s rs : List ℕ) : Type 0 where
-  pub unit : chainEnd s rs % unitBytes ≡ 0
-  pub past : linkOf rs + unitBytes ≤ chainEnd s rs
-  pub inside : chainEnd s rs ≤ length s
+pub record EndFacts (K : Kind) (s rs : List ℕ) : Type 0 where
+  pub unit : chainEnd K s rs % unitBytes ≡ 0
+  pub past : linkOf rs + unitBytes ≤ chainEnd K s rs
+  pub inside : chainEnd K s rs ≤ length s
 
 -- with no record
-end-none : (s : List ℕ) → HeaderFacts s → EndFacts s []
+end-none : (K : Kind) (s : List ℕ) → HeaderFacts s → EndFacts K s []
 unfolding chainEnd linkOf
-end-none s h = record { unit = omega arith; past = omega arith; inside = h .least }
+end-none K s h = record { unit = omega arith; past = omega arith; inside = h .least }
 
 -- with one record more in front
-end-more : (s : List ℕ) (a : ℕ) (bs : List ℕ) → RecordFacts s a → a % unitBytes ≡ 0 → EndFacts s bs → EndFacts s (a ∷ bs)
+end-more : (K : Kind) → KindFits K → (s : List ℕ) (a : ℕ) (bs : List ℕ) → RecordFacts K s a → a % unitBytes ≡ 0 → EndFacts K s bs → EndFacts K s (a ∷ bs)
 unfolding chainEnd linkOf
-end-more s a [] f z e = record { unit = omega arith; past = omega arith; inside = f .inside }
-end-more s a (b ∷ bs) f z e = record { unit = e .unit; past = e .past; inside = e .inside }
+end-more K F s a [] f z e = record { unit = omega (arith, size-units K F (lengthAt s a)); past = omega arith; inside = f .inside }
+end-more K F s a (b ∷ bs) f z e = record { unit = e .unit; past = e .past; inside = e .inside }
 
 -- of all records
-links-ended : {s : List ℕ} {a : ℕ} {met rs : List ℕ} → HeaderFacts s → Links s a met rs → a % unitBytes ≡ 0 → EndFacts s rs
-links-ended {s} h links-end z = end-none s h
-links-ended {s} {a} h (links-more n f u k) z = end-more s a _ f z (links-ended h k (omega arith))
+links-ended : {K : Kind} {s : List ℕ} {a : ℕ} {met rs : List ℕ} → KindFits K → HeaderFacts s → Links K s a met rs → a % unitBytes ≡ 0 → EndFacts K s rs
+links-ended {K} {s} F h links-end z = end-none K s h
+links-ended {K} {s} {a} F h (links-more n f u k) z = end-more K F s a _ f z (links-ended F h k (omega arith))
 
 -- the end of more records than one
-end-rest : (s : List ℕ) (a : ℕ) (bs : List ℕ) → 0 < length bs → chainEnd s (a ∷ bs) ≡ chainEnd s bs
+end-rest : (K : Kind) (s : List ℕ) (a : ℕ) (bs : List ℕ) → 0 < length bs → chainEnd K s (a ∷ bs) ≡ chainEnd K s bs
 unfolding chainEnd
-end-rest s a [] l = absurd (omega arith)
-end-rest s a (b ∷ bs) l = refl
+end-rest K s a [] l = absurd (omega arith)
+end-rest K s a (b ∷ bs) l = refl
 
 -- the first record ends by the end of the last
-end-first : (s : List ℕ) (a : ℕ) (bs : List ℕ) → (0 < length bs → endAt s a ≤ chainEnd s bs) → endAt s a ≤ chainEnd s (a ∷ bs)
+end-first : (K : Kind) (s : List ℕ) (a : ℕ) (bs : List ℕ) → (0 < length bs → endAt K s a ≤ chainEnd K s bs) → endAt K s a ≤ chainEnd K s (a ∷ bs)
 unfolding chainEnd
-end-first s a [] h = omega arith
-end-first s a (b ∷ bs) h = h (omega arith)
+end-first K s a [] h = omega arith
+end-first K s a (b ∷ bs) h = h (omega arith)
 
 -- and so does each
-links-within : {s : List ℕ} {a : ℕ} {met rs : List ℕ} → Links s a met rs → (i : ℕ) → i < length rs → endAt s (getD rs i 0) ≤ chainEnd s rs
+links-within : {K : Kind} {s : List ℕ} {a : ℕ} {met rs : List ℕ} → Links K s a met rs → (i : ℕ) → i < length rs → endAt K s (getD rs i 0) ≤ chainEnd K s rs
 links-within links-end i l = absurd (omega arith)
-links-within {s} (links-more {a} {met} {bs} n f u k) zero l =
-    end-first s a bs (λ m. omega (arith, links-order (links-more n f u k) 0 1 (omega arith) (omega arith), links-within k 0 m))
-links-within {s} (links-more {a} {met} {bs} n f u k) (suc i) l = rw (end-rest s a bs (omega arith)) (links-within k i (omega arith))
+links-within {K} {s} (links-more {a} {met} {bs} n f u k) zero l =
+    end-first K s a bs (λ m. omega (arith, links-order (links-more n f u k) 0 1 (omega arith) (omega arith), links-within k 0 m))
+links-within {K} {s} (links-more {a} {met} {bs} n f u k) (suc i) l = rw (end-rest K s a bs (omega arith)) (links-within k i (omega arith))
 
 -- what the records of a sound chain are known for, by their places in the chain
 pub record ChainFacts (s rs : List ℕ) : Type 0 where
   pub header : HeaderFacts s
-  pub each : (i : ℕ) → i < length rs → Placed s (getD rs i 0)
-  pub order : (i j : ℕ) → i < j → j < length rs → endAt s (getD rs i 0) ≤ getD rs j 0
+  pub each : (i : ℕ) → i < length rs → Placed (kindOf s) s (getD rs i 0)
+  pub order : (i j : ℕ) → i < j → j < length rs → endAt (kindOf s) s (getD rs i 0) ≤ getD rs j 0
   pub differ : (i j : ℕ) → i < j → j < length rs → labelAt s (getD rs i 0) ≡ labelAt s (getD rs j 0) → ⊥
-  pub within : (i : ℕ) → i < length rs → endAt s (getD rs i 0) ≤ chainEnd s rs
-  pub ended : EndFacts s rs
+  pub within : (i : ℕ) → i < length rs → endAt (kindOf s) s (getD rs i 0) ≤ chainEnd (kindOf s) s rs
+  pub ended : EndFacts (kindOf s) s rs
 
 -- a sound chain has the facts
 pub chain-facts : (s rs : List ℕ) → chainOf s ≡ some rs → ChainFacts s rs
@@ -382,7 +386,7 @@ chain-facts s rs e =
       order = links-order (k .1);
       differ = links-differ (k .1);
       within = links-within (k .1);
-      ended = links-ended (k .0) (k .1) (omega arith);
+      ended = links-ended (image-fits s) (k .0) (k .1) (omega arith);
     }
 
 -- ---- how many records there are
@@ -421,9 +425,9 @@ free-more met l (suc n) p q h = go (eqb (suc n) l) refl (free-more met l n p)
         omega (arith, later z h)
 
 -- the records of a chain have labels of their own
-links-labels : {s : List ℕ} {a : ℕ} {met rs : List ℕ} → Links s a met rs → length rs ≤ free met mostLabel
+links-labels : {K : Kind} {s : List ℕ} {a : ℕ} {met rs : List ℕ} → Links K s a met rs → length rs ≤ free met mostLabel
 links-labels links-end = omega arith
-links-labels {s} {a} {met} (links-more n f u k) = omega (arith, links-labels k, free-more met (labelAt s a) mostLabel (f .low) (f .high) u)
+links-labels {K} {s} {a} {met} (links-more n f u k) = omega (arith, links-labels k, free-more met (labelAt s a) mostLabel (f .low) (f .high) u)
 
 -- so there are at most 64
 pub chain-few : (s rs : List ℕ) → chainOf s ≡ some rs → length rs ≤ mostLabel
@@ -469,11 +473,11 @@ link-last (b ∷ []) a = refl
 link-last (b ∷ c ∷ cs) a = link-last (c ∷ cs) a
 
 -- and the chain ends where that one ends
-pub end-last : (s xs : List ℕ) (a : ℕ) → chainEnd s (xs ++ (a ∷ [])) ≡ endAt s a
+pub end-last : (K : Kind) (s xs : List ℕ) (a : ℕ) → chainEnd K s (xs ++ (a ∷ [])) ≡ endAt K s a
 unfolding chainEnd
-end-last s [] a = refl
-end-last s (b ∷ []) a = refl
-end-last s (b ∷ c ∷ cs) a = end-last s (c ∷ cs) a
+end-last K s [] a = refl
+end-last K s (b ∷ []) a = refl
+end-last K s (b ∷ c ∷ cs) a = end-last K s (c ∷ cs) a
 
 -- ---- opening a row
 -- 10 the chain is not sound
@@ -501,7 +505,7 @@ pub record Opened (s : List ℕ) (label : ℕ) : Type 0 where
   pub high : label ≤ mostLabel
   pub found : recordWith s label ≡ some (rowPlace s label)
   pub its : labelAt s (rowPlace s label) ≡ label
-  pub placed : Placed s (rowPlace s label)
+  pub placed : Placed (kindOf s) s (rowPlace s label)
 
 -- a chain that is there has its records
 pub some-in : (o : Option (List ℕ)) → isSome o ≡ true → o ≡ some (recordsIn o)
@@ -514,8 +518,8 @@ some-place none h = absurd (false≢true h)
 some-place (some a) h = refl
 
 -- a record with the label is a record of the chain
-pub found-placed : (s rs : List ℕ) (label a : ℕ) → ChainFacts s rs → Found s rs label a → Placed s a
-found-placed s rs label a f k = subst (Placed s) (k .here) (f .each (k .index) (k .within))
+pub found-placed : (s rs : List ℕ) (label a : ℕ) → ChainFacts s rs → Found s rs label a → Placed (kindOf s) s a
+found-placed s rs label a f k = subst (Placed (kindOf s) s) (k .here) (f .each (k .index) (k .within))
 
 -- a row whose opening no line refuses
 pub opened : (s : List ℕ) (label : ℕ) → judge (openTable s label) ≡ none → Opened s label
@@ -560,10 +564,10 @@ part-refused s label o r e d =
     ap (λ (v : Option ℕ). unless v (λ n. []) (rowPart s label)) (sym (opened-refused s label o r e d))
 
 -- the part of an opened row
-pub part-opened : (s : List ℕ) (label : ℕ) (o : Answer) (at : ℕ) → toldOf o ≡ openTold s label → o ≡ Value at → partAt s at ≡ openPart s label
+pub part-opened : (s : List ℕ) (label : ℕ) (o : Answer) (at : ℕ) → toldOf o ≡ openTold s label → o ≡ Value at → partAt (kindOf s) s at ≡ openPart s label
 part-opened s label o at e d =
     let k = opened-value s label o at e d in
-    ap (partAt s) (k .1) ∙ ap (λ (v : Option ℕ). unless v (λ n. []) (rowPart s label)) (sym (k .0))
+    ap (partAt (kindOf s) s) (k .1) ∙ ap (λ (v : Option ℕ). unless v (λ n. []) (rowPart s label)) (sym (k .0))
 
 -- a part from a to its end
 pub part-taken : (s : List ℕ) (a end m : ℕ) → end ≡ a + m → take (end - a) (drop a s) ≡ take m (drop a s)

@@ -1,22 +1,30 @@
--- An entry from its numbers, which are counted block by block, and its fields read from its two halves. Assumes nothing.
+-- The entry of kind 1: from its numbers, what it tells, and its fields read from its two halves. Assumes nothing.
 use mathlib.Core.Path.{_≡_, sym, ap, ap₂, _∙_, subst}
 use mathlib.Core.List.{List}
 use Prim.Native.Nat.{ℕ, zero, suc, _+_, _-_, _*_, _/_, _%_, _^_, _≤_, _<_}
 use native.Mathlib.Nat.{mod-lt, mod-eq-of-lt, mul-zero, mul-mod-left, div-one, div-eq-of-lt, add-mul-div-left, add-mul-mod-self-left}
 use native.Mathlib.Numerals.{add-one}
 use native.Mathlib.Omega.{arith}
+use lib.Arith as A
 use lib.Dec.{lit<}
-use lib.ListN.{length, set, getD, length-set}
+use lib.ListN.{getD}
 use lib.Pow as P
 use lib.Pow.{shl-exact, shl-shr, shr-shr, shr-lt, mod-mod-pow, pow-pos}
+use lib.Seq.{sets}
 use Rattle.words.specs.Bits.{ones, digits}
-use Rattle.words.proofs.Sums.{sum-zero, sum-split, sum-ext, ones-le, stored-more}
+use Rattle.words.proofs.Sums.{sum-zero, ones-le}
 use Rattle.words.proofs.DigitLaws.{digits-ext, digits-at}
-use Rattle.image.specs.Bytes.{num}
-use Rattle.image.specs.Layout.{superblockEntry, entryOf}
-use Rattle.image.specs.Writing.{BlockCounts, EntryFits, entryFrom, HalvesOf}
-use Rattle.image.specs.Reading.{superblockField, blockField, entryOnes}
+use Rattle.image.specs.Bytes.{num, le}
+use Rattle.image.specs.Kinds.{kind1}
+use Rattle.image.specs.Layout.{mostRow, superblockBlocks, superblocksOf, bitsStart}
+use Rattle.image.specs.Rows.{Right}
+use Rattle.image.specs.Entry.{superblockField, blockField, entryTold, entryOnes, EntryFits, entryFrom, HalvesOf}
+use Rattle.image.specs.Writing.{BlockCounts}
+use Rattle.image.proofs.KindLaws.{EntryTells, kind1-fits}
 use Rattle.image.proofs.NumberLaws.{num-halves}
+use Rattle.image.proofs.PutLaws.{put-join}
+use Rattle.image.proofs.WriteLaws.{digits-lt}
+use Rattle.image.proofs.PartLaws.{Indexed, bitsOf, right-indexed}
 
 -- ---- an entry from its numbers
 -- the ones of a superblock before one of its blocks fit their 12 bits
@@ -24,24 +32,14 @@ pub block-ones-lt : (g : ℕ → ℕ) (j : ℕ) → ((p : ℕ) → g p ≤ 1) �
 block-ones-lt g j b h = omega (arith, ones-le g (512 * (j + 1)) b)
 
 -- with the ones before the superblock, the ones up to the end of each block fit the fields of an entry
-pub counts-fit : (g : ℕ → ℕ) (c : List ℕ) (sum : ℕ) → BlockCounts g c → ((p : ℕ) → g p ≤ 1) → sum < 2 ^ 44 → EntryFits sum c
+pub counts-fit : (g : ℕ → ℕ) (c : List ℕ) (sum : ℕ) → BlockCounts kind1 g c → ((p : ℕ) → g p ≤ 1) → sum < 2 ^ 44 → EntryFits sum c
 counts-fit g c sum h b l =
     record { first = l; long = h .long; others = λ j k. omega (arith, h .ends j (omega arith), block-ones-lt g j b k) }
 
 -- and make the superblock's entry
-pub entry-made : (g : ℕ → ℕ) (c : List ℕ) (sum : ℕ) → BlockCounts g c → entryFrom sum c ≡ superblockEntry g sum
+pub entry-made : (g : ℕ → ℕ) (c : List ℕ) (sum : ℕ) → BlockCounts kind1 g c → entryFrom sum c ≡ kind1 .entry g sum
 entry-made g c sum h =
     ap (λ (d : ℕ). sum + 2 ^ 44 * d) (digits-ext (2 ^ 12) (λ j. getD c j 0) (λ j. ones g (512 * (j + 1))) 7 (λ j l. h .ends j (omega arith)))
-
--- of equal bits they are equal
-pub counts-ext : (f g : ℕ → ℕ) (c : List ℕ) → BlockCounts f c → ((p : ℕ) → p < 4096 → f p ≡ g p) → BlockCounts g c
-counts-ext f g c h e =
-    record { long = h .long; ends = λ j l. h .ends j l ∙ sum-ext f g (512 * (j + 1)) (λ p q. e p (omega arith)) }
-
--- the entry of superblock e, with the row's ones before it, is entry e of the row
-pub entry-placed : (f : ℕ → ℕ) (e sum : ℕ) → sum ≡ ones f (4096 * e) → superblockEntry (λ p. f (4096 * e + p)) sum ≡ entryOf f e
-unfolding entryOf
-entry-placed f e sum h = ap (superblockEntry (λ p. f (4096 * e + p))) h
 
 -- seven digits
 digits-seven : (b : ℕ) (g : ℕ → ℕ) → digits b g 7 ≡ g 0 + b * (g 1 + b * (g 2 + b * (g 3 + b * (g 4 + b * (g 5 + b * g 6)))))
@@ -90,62 +88,50 @@ halves-made sum c h =
         ≡ a + 2 ^ 44 * (x0 + 2 ^ 12 * (x1 + 2 ^ 12 * (x2 + 2 ^ 12 * (x3 + 2 ^ 12 * (x4 + 2 ^ 12 * (x5 + 2 ^ 12 * x6))))))
     go a x0 x1 x2 x3 x4 x5 x6 = omega arith
 
--- ---- the blocks of a superblock of bits g counted one after another: `sum` is the ones before block j
-pub record Counting (g : ℕ → ℕ) (c : List ℕ) (sum j : ℕ) : Type 0 where
-  pub within : j ≤ 8
-  pub long : length c ≡ 8
-  pub count : sum ≡ ones g (512 * j)
-  pub ends : (i : ℕ) → i < j → getD c i 0 ≡ ones g (512 * (i + 1))
+-- ---- what an entry tells
+module _ (g : ℕ → ℕ) (before : ℕ) (small : before < 2 ^ 44) where
+  -- the ones before its superblock
+  entry-superblock : superblockField (kind1 .entry g before) ≡ before
+  entry-superblock = add-mul-mod-self-left before (2 ^ 44) (digits (2 ^ 12) (λ j. ones g (512 * (j + 1))) 7) ∙ mod-eq-of-lt small
 
--- none is counted yet
-pub counting-none : (g : ℕ → ℕ) (c : List ℕ) → length c ≡ 8 → Counting g c 0 0
-counting-none g c h = record { within = omega arith; long = h; count = sym (sum-zero g); ends = (λ i l. absurd (omega arith)) }
+  module _ (b : (p : ℕ) → g p ≤ 1) where
+    -- the ones of its superblock before block j
+    entry-block : (j : ℕ) → j < 8 → blockField (kind1 .entry g before) j ≡ ones g (512 * j)
+    unfolding blockField
+    entry-block zero h = sym (sum-zero g)
+    entry-block (suc j) h =
+        let d : ℕ = digits (2 ^ 12) (λ j. ones g (512 * (j + 1))) 7 in
+        let v : ℕ = before + 2 ^ 44 * d in
+        let up : v / 2 ^ 44 ≡ d = omega (arith, add-mul-div-left before d (pow-pos 44), div-eq-of-lt small) in
+        ap (λ (x : ℕ). x % 2 ^ 12) (sym (shr-shr v 44 (12 * j)))
+        ∙ ap (λ (x : ℕ). x / 2 ^ (12 * j) % 2 ^ 12) up
+        ∙ digits-at 12 (λ j. ones g (512 * (j + 1))) 7 j (λ i l. block-ones-lt g i b l) (omega arith)
+        ∙ ap (λ (i : ℕ). ones g (512 * i)) (add-one j)
 
--- one block more
-pub counting-more : (g : ℕ → ℕ) (c : List ℕ) (sum j next : ℕ) → Counting g c sum j → j < 8 → next ≡ ones g (512 * (j + 1))
-    → Counting g (set c j next) next (j + 1)
-counting-more g c sum j next x h is =
+    -- it has 128 bits
+    entry-lt : kind1 .entry g before < 2 ^ 128
+    entry-lt =
+        go before (digits (2 ^ 12) (λ j. ones g (512 * (j + 1))) 7) small
+        (digits-lt (2 ^ 12) (λ j. ones g (512 * (j + 1))) 7 (λ i l. block-ones-lt g i b l))
+      where
+        go : (a d : ℕ) → a < 2 ^ 44 → d < 2 ^ 84 → a + 2 ^ 44 * d < 2 ^ 128
+        go a d h k =
+            let e : d * 2 ^ 44 + a ≡ a + 2 ^ 44 * d = omega arith in
+            subst (λ (x : ℕ). x < 2 ^ 128) e (A.digits-lt {q = d} {m = 2 ^ 84} {r = a} {c = 2 ^ 44} k h)
+
+-- what is asked of an entry
+pub kind1-tells : EntryTells kind1 entryTold
+kind1-tells =
     record {
-      within = omega arith;
-      long = length-set c j next ∙ x .long;
-      count = is;
-      ends = stored-more (λ i. ones g (512 * (i + 1))) c j next (omega (arith, x .long)) (x .ends) is;
+      fits = λ g before b l. entry-lt g before (omega arith) b;
+      tells = λ g before j b l h. ap₂ (λ (x y : ℕ). x + y) (entry-superblock g before (omega arith)) (entry-block g before (omega arith) b j h);
     }
 
--- all eight are counted
-pub counting-done : (g : ℕ → ℕ) (c : List ℕ) (sum j : ℕ) → Counting g c sum j → 8 ≤ j → BlockCounts g c
-counting-done g c sum j x h = record { long = x .long; ends = λ i l. x .ends i (omega arith) }
-
--- ---- what an entry holds
-module _ (f : ℕ → ℕ) (e : ℕ) (small : ones f (4096 * e) < 2 ^ 44) where
-  -- the ones before its superblock
-  pub entry-superblock : superblockField (entryOf f e) ≡ ones f (4096 * e)
-  unfolding entryOf
-  entry-superblock =
-      add-mul-mod-self-left (ones f (4096 * e)) (2 ^ 44) (digits (2 ^ 12) (λ j. ones (λ p. f (4096 * e + p)) (512 * (j + 1))) 7) ∙ mod-eq-of-lt small
-
-  -- the ones of its superblock before block j
-  pub entry-block : (j : ℕ) → ((p : ℕ) → f p ≤ 1) → j < 8 → blockField (entryOf f e) j ≡ ones (λ p. f (4096 * e + p)) (512 * j)
-  unfolding entryOf blockField
-  entry-block zero b h = sym (sum-zero (λ p. f (4096 * e + p)))
-  entry-block (suc j) b h =
-      let g : ℕ → ℕ = λ j. ones (λ p. f (4096 * e + p)) (512 * (j + 1)) in
-      let d : ℕ = digits (2 ^ 12) g 7 in
-      let v : ℕ = ones f (4096 * e) + 2 ^ 44 * d in
-      let up : v / 2 ^ 44 ≡ d = omega (arith, add-mul-div-left (ones f (4096 * e)) d (pow-pos 44), div-eq-of-lt small) in
-      ap (λ (x : ℕ). x % 2 ^ 12) (sym (shr-shr v 44 (12 * j)))
-      ∙ ap (λ (x : ℕ). x / 2 ^ (12 * j) % 2 ^ 12) up
-      ∙ digits-at 12 g 7 j (λ i l. block-ones-lt (λ p. f (4096 * e + p)) i (λ p. b (4096 * e + p)) l) (omega arith)
-      ∙ ap (λ (i : ℕ). ones (λ p. f (4096 * e + p)) (512 * i)) (add-one j)
-
--- together: the ones before block m
-pub entry-before : (f : ℕ → ℕ) (m : ℕ) → ones f (4096 * (m / 8)) < 2 ^ 44 → ((p : ℕ) → f p ≤ 1)
-    → superblockField (entryOf f (m / 8)) + blockField (entryOf f (m / 8)) (m % 8) ≡ ones f (512 * m)
-entry-before f m small b =
-    let e : 4096 * (m / 8) + 512 * (m % 8) ≡ 512 * m = omega arith in
-    ap₂ (λ (x y : ℕ). x + y) (entry-superblock f (m / 8) small) (entry-block f (m / 8) small (m % 8) b (omega arith))
-    ∙ sym (sum-split f (4096 * (m / 8)) (512 * (m % 8)))
-    ∙ ap (ones f) e
+-- so of a right row they tell the ones before each block
+pub kind1-indexed : (part : List ℕ) (n : ℕ) → n ≤ mostRow → Right kind1 part n
+    → Indexed part (bitsStart kind1 n) (superblockBlocks kind1 * superblocksOf kind1 n) n (bitsOf kind1 part n) (entryOnes part)
+unfolding entryOnes
+kind1-indexed part n short right = right-indexed kind1 part n short right kind1-fits kind1-tells
 
 -- ---- the fields from the two halves of an entry
 -- 12 bits of a number from bit b on, of which only the low w are kept
@@ -233,3 +219,21 @@ entry-ones-lt s m = go (superblockField v) (blockField v (m % 8)) (mod-lt v (pow
 
     go : (x y : ℕ) → x < 2 ^ 44 → y < 2 ^ 12 → x + y < 2 ^ 44 + 2 ^ 12
     go x y h k = omega arith
+
+-- ---- an entry of 16 bytes in two halves
+-- stored one after the other
+pub halves-stored : (s t u : List ℕ) (a v low high : ℕ) → HalvesOf v low high → t ≡ sets s a (le 8 low) → u ≡ sets t (a + 8) (le 8 high)
+    → u ≡ sets s a (le 16 v)
+halves-stored s t u a v low high h et eu =
+    eu ∙ ap (λ (l : List ℕ). sets l (a + 8) (le 8 high)) et ∙ put-join s a 8 8 low high (h .small) ∙ ap (λ (x : ℕ). sets s a (le 16 x)) (h .whole)
+
+-- read, they are those of v exactly where the entry is v
+module _ (s : List ℕ) (at low high u w v : ℕ) (first : u ≡ num s at 8) (second : w ≡ num s (at + 8) 8) (is : HalvesOf v low high) where
+  pub halves-same : u ≡ low → w ≡ high → num s at 16 ≡ v
+  halves-same a b = sym (num-halves s at u w first second) ∙ ap₂ (λ (x y : ℕ). x + 2 ^ 64 * y) a b ∙ is .whole
+
+  pub same-halves : u < 2 ^ 64 → num s at 16 ≡ v → (u ≡ low) × (w ≡ high)
+  same-halves a e = go u w low high a (is .small) (num-halves s at u w first second ∙ e ∙ sym (is .whole))
+    where
+      go : (x y i j : ℕ) → x < 2 ^ 64 → i < 2 ^ 64 → x + 2 ^ 64 * y ≡ i + 2 ^ 64 * j → (x ≡ i) × (y ≡ j)
+      go x y i j l h k = (omega arith, omega arith)

@@ -20,7 +20,7 @@ use Rattle.image.specs.declared.freezing.Place.{Place}
 use Rattle.image.specs.declared.freezing.Place.the-variants as place
 use Rattle.image.specs.Bytes.{le}
 use Rattle.image.specs.Layout.{unitBytes, mostLabel, sizeOf, recordOf}
-use Rattle.image.specs.Chain.{goodLabel, chainOf, chainEnd, linkOf}
+use Rattle.image.specs.Chain.{kindOf, goodLabel, chainOf, chainEnd, linkOf}
 use Rattle.image.specs.Calls.{isSome, recordsOf, recordWith, recordLines, freezeTable, frozen, imageOutcome, freezeOutcome}
 use Rattle.image.specs.Writing.{at, nowhere, placeTold, newPlace, freezePlace}
 use Rattle.image.proofs.ChainLaws.{no-confusion, label-facts, ChainFacts, chain-facts, some-in}
@@ -41,12 +41,13 @@ place-present s label size a e g p = sym (simp (ap isSome e, g, ap isSome p))
 
 -- 13 it does not end inside the image
 pub place-full : (s : List ℕ) (label size : ℕ) → chainOf s ≡ some (recordsOf s) → goodLabel label ≡ true → recordWith s label ≡ none
-    → length s < chainEnd s (recordsOf s) + size → nowhere 13 ≡ newPlace s label size
+    → length s < chainEnd (kindOf s) s (recordsOf s) + size → nowhere 13 ≡ newPlace s label size
 place-full s label size e g p h = sym (simp (ap isSome e, g, ap isSome p, lt-ltb _ _ h))
 
 -- else after the last record
 pub place-new : (s : List ℕ) (label size link start : ℕ) → chainOf s ≡ some (recordsOf s) → goodLabel label ≡ true → recordWith s label ≡ none
-    → chainEnd s (recordsOf s) + size ≤ length s → link ≡ linkOf (recordsOf s) → start ≡ chainEnd s (recordsOf s) → at link start ≡ newPlace s label size
+    → chainEnd (kindOf s) s (recordsOf s) + size ≤ length s → link ≡ linkOf (recordsOf s) → start ≡ chainEnd (kindOf s) s (recordsOf s)
+    → at link start ≡ newPlace s label size
 place-new s label size link start e g p h l z =
     ap₂ at l z ∙ sym (simp (ap isSome e, g, ap isSome p, le-ltb _ _ h))
 
@@ -54,16 +55,16 @@ place-new s label size link start e g p h l z =
 pub freeze-early : (h : Handle) (words : ℕ) (s : List ℕ) (label : ℕ) (v : Verdict) (r : Refusal) → verdictOf v ≡ judge (stripLines h words untaken)
     → v ≡ Refuse r → nowhere (numberOf r) ≡ freezePlace h words s label
 freeze-early h words s label v r e d =
-    let t = recordLines s label (sizeOf (h .length)) in
-    ap (λ (o : Option ℕ). unless o nowhere (at (linkOf (recordsOf s)) (chainEnd s (recordsOf s))))
+    let t = recordLines s label (sizeOf (kindOf s) (h .length)) in
+    ap (λ (o : Option ℕ). unless o nowhere (at (linkOf (recordsOf s)) (chainEnd (kindOf s) s (recordsOf s))))
     (sym (ap verdictOf d) ∙ refused-first (stripLines h words untaken) t v r e d)
 
 -- passed by them
 pub freeze-late : (h : Handle) (words : ℕ) (s : List ℕ) (label : ℕ) (v : Verdict) → verdictOf v ≡ judge (stripLines h words untaken) → v ≡ Pass
-    → newPlace s label (sizeOf (h .length)) ≡ freezePlace h words s label
+    → newPlace s label (sizeOf (kindOf s) (h .length)) ≡ freezePlace h words s label
 freeze-late h words s label v e d =
-    let t = recordLines s label (sizeOf (h .length)) in
-    ap (λ (o : Option ℕ). unless o nowhere (at (linkOf (recordsOf s)) (chainEnd s (recordsOf s))))
+    let t = recordLines s label (sizeOf (kindOf s) (h .length)) in
+    ap (λ (o : Option ℕ). unless o nowhere (at (linkOf (recordsOf s)) (chainEnd (kindOf s) s (recordsOf s))))
     (sym (passed-first (stripLines h words untaken) t v e d))
 
 -- ---- what a freeze that no line refuses is known for
@@ -74,7 +75,7 @@ pub record Freezing (h : Handle) (words : ℕ) (s : List ℕ) (label : ℕ) : Ty
   pub low : 1 ≤ label
   pub high : label ≤ mostLabel
   pub absent : recordWith s label ≡ none
-  pub room : chainEnd s (recordsOf s) + sizeOf (h .length) ≤ length s
+  pub room : chainEnd (kindOf s) s (recordsOf s) + sizeOf (kindOf s) (h .length) ≤ length s
 
 -- nothing is there
 pub none-in : {A : Type 0} (o : Option A) → isSome o ≡ false → o ≡ none
@@ -83,8 +84,8 @@ none-in (some a) h = let z : _≡_ {A = Bool} true false = h in absurd (true≢f
 
 pub freezing : (h : Handle) (words : ℕ) (s : List ℕ) (label : ℕ) → judge (freezeTable h words s label) ≡ none → Freezing h words s label
 freezing h words s label e =
-    let b = passed-both (stripLines h words untaken) (recordLines s label (sizeOf (h .length))) e in
-    let w = passes (recordLines s label (sizeOf (h .length))) (b .1) in
+    let b = passed-both (stripLines h words untaken) (recordLines s label (sizeOf (kindOf s) (h .length))) e in
+    let w = passes (recordLines s label (sizeOf (kindOf s) (h .length))) (b .1) in
     let g = label-facts label (not-not (goodLabel label) (w .1 .0)) in
     let c : chainOf s ≡ some (recordsOf s) = some-in (chainOf s) (not-not _ (w .0)) in
     record {
@@ -110,22 +111,22 @@ nowhere-told (some k) n m b e = cc
 -- what a place that is given says
 pub placed-at : (h : Handle) (words : ℕ) (s : List ℕ) (label : ℕ) (r : Place) (link start : ℕ) → placeTold r ≡ freezePlace h words s label
     → r ≡ place.At link start
-    → (judge (freezeTable h words s label) ≡ none) × (link ≡ linkOf (recordsOf s)) × (start ≡ chainEnd s (recordsOf s))
+    → (judge (freezeTable h words s label) ≡ none) × (link ≡ linkOf (recordsOf s)) × (start ≡ chainEnd (kindOf s) s (recordsOf s))
 placed-at h words s label r link start e d =
-    at-told (judge (freezeTable h words s label)) link start (linkOf (recordsOf s)) (chainEnd s (recordsOf s)) (sym (ap placeTold d) ∙ e)
+    at-told (judge (freezeTable h words s label)) link start (linkOf (recordsOf s)) (chainEnd (kindOf s) s (recordsOf s)) (sym (ap placeTold d) ∙ e)
 
 -- a freeze that is refused
 pub freeze-refused : (h : Handle) (ws s : List ℕ) (label : ℕ) (r : Place) (x : Refusal) → placeTold r ≡ freezePlace h (length ws) s label
     → r ≡ place.Refused x → imageOutcome (refused (numberOf x)) s ≡ freezeOutcome h ws s label
 freeze-refused h ws s label r x e d =
     ap (λ (o : Option ℕ). unless o (λ n. imageOutcome (refused n) s)
-    (imageOutcome (value (chainEnd s (recordsOf s) / unitBytes)) (frozen s label (stripOf ws (h .length)))))
-    (sym (nowhere-told (judge (freezeTable h (length ws) s label)) (numberOf x) (linkOf (recordsOf s)) (chainEnd s (recordsOf s)) (sym (ap placeTold d) ∙ e)))
+    (imageOutcome (value (chainEnd (kindOf s) s (recordsOf s) / unitBytes)) (frozen s label (stripOf ws (h .length)))))
+    (sym (nowhere-told (judge (freezeTable h (length ws) s label)) (numberOf x) (linkOf (recordsOf s)) (chainEnd (kindOf s) s (recordsOf s)) (sym (ap placeTold d) ∙ e)))
 
 -- a freeze that is accepted
 pub freeze-done : (h : Handle) (ws s : List ℕ) (label link start : ℕ) (t u : List ℕ) → judge (freezeTable h (length ws) s label) ≡ none
-    → link ≡ linkOf (recordsOf s) → start ≡ chainEnd s (recordsOf s) → t ≡ sets s link (le 4 (start / unitBytes))
-    → u ≡ sets t start (recordOf 0 label (stripOf ws (h .length))) → imageOutcome (value (start / unitBytes)) u ≡ freezeOutcome h ws s label
+    → link ≡ linkOf (recordsOf s) → start ≡ chainEnd (kindOf s) s (recordsOf s) → t ≡ sets s link (le 4 (start / unitBytes))
+    → u ≡ sets t start (recordOf (kindOf s) 0 label (stripOf ws (h .length))) → imageOutcome (value (start / unitBytes)) u ≡ freezeOutcome h ws s label
 freeze-done h ws s label link start t u e l z et eu =
     rw (eu, et, l, z) (ap (λ (o : Option ℕ). unless o (λ n. imageOutcome (refused n) s)
-    (imageOutcome (value (chainEnd s (recordsOf s) / unitBytes)) (frozen s label (stripOf ws (h .length))))) (sym e))
+    (imageOutcome (value (chainEnd (kindOf s) s (recordsOf s) / unitBytes)) (frozen s label (stripOf ws (h .length))))) (sym e))

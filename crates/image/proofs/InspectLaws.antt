@@ -9,35 +9,37 @@ use lib.ListN.{length, getD, length-append}
 use Rattle.words.specs.Refusals.{Told, value, refused}
 use Rattle.words.proofs.BoolLaws.{and-intro, and-first, and-second, true-false}
 use Rattle.image.specs.Bytes.{num}
+use Rattle.image.specs.Kinds.{Kind}
 use Rattle.image.specs.Layout.{unitBytes, mostLabel}
-use Rattle.image.specs.Chain.{nextAt, lengthAt, chainOf}
+use Rattle.image.specs.Chain.{kindOf, nextAt, lengthAt, chainOf}
 use Rattle.image.specs.Rows.{partAt, Right, rightPart, RightAt, Obeys, HasWrongRow}
 use Rattle.image.specs.Shelf.{Labelled, written}
 use Rattle.image.specs.Calls.{isSome, recordsIn, recordsOf, allRight, inspectTold, goodPart}
+use Rattle.image.proofs.KindLaws.{KindFits, KindNamed}
 use Rattle.image.proofs.RightLaws.{right-test, test-right}
 use Rattle.image.proofs.ChainLaws.{no-confusion, RecordFacts, some-in, chain-few}
 use Rattle.image.proofs.WalkLaws.{SoundWalk, Turn, walk-none, walk-turn, walk-done}
 use Rattle.image.proofs.RowLaws.{part-held, part-good}
-use Rattle.image.proofs.ShelfLaws.{Good, places, length-places, written-chain, written-records, written-row}
+use Rattle.image.proofs.ShelfLaws.{Good, places, length-places, written-kind, written-chain, written-records, written-row}
 
 -- ---- right rows
 -- the test of a row at byte a
 abbrev pub rowTest : List ℕ → ℕ → Bool
-rowTest s a = rightPart (partAt s a) (lengthAt s a)
+rowTest s a = rightPart (kindOf s) (partAt (kindOf s) s a) (lengthAt s a)
 
 -- rows that the test finds right
-all-right : (s rs : List ℕ) → allRight s rs ≡ true → (i : ℕ) → i < length rs → RightAt s (getD rs i 0)
+all-right : (s rs : List ℕ) → allRight s rs ≡ true → (i : ℕ) → i < length rs → RightAt (kindOf s) s (getD rs i 0)
 unfolding allRight
 all-right s [] h i l = absurd (omega arith)
-all-right s (a ∷ rs) h zero l = test-right (partAt s a) (lengthAt s a) (and-first (rowTest s a) (allRight s rs) h)
+all-right s (a ∷ rs) h zero l = test-right (kindOf s) (partAt (kindOf s) s a) (lengthAt s a) (and-first (rowTest s a) (allRight s rs) h)
 all-right s (a ∷ rs) h (suc i) l = all-right s rs (and-second (rowTest s a) (allRight s rs) h) i (omega arith)
 
 -- the test finds right rows
-right-all : (s rs : List ℕ) → ((i : ℕ) → i < length rs → RightAt s (getD rs i 0)) → allRight s rs ≡ true
+right-all : (s rs : List ℕ) → ((i : ℕ) → i < length rs → RightAt (kindOf s) s (getD rs i 0)) → allRight s rs ≡ true
 unfolding allRight
 right-all s [] h = refl
 right-all s (a ∷ rs) h =
-    and-intro (right-test (partAt s a) (lengthAt s a) (h 0 (omega arith))) (right-all s rs (λ i l. h (suc i) (omega arith)))
+    and-intro (right-test (kindOf s) (partAt (kindOf s) s a) (lengthAt s a) (h 0 (omega arith))) (right-all s rs (λ i l. h (suc i) (omega arith)))
 
 -- the first row right, or not
 all-more : (s : List ℕ) (a : ℕ) (rs : List ℕ) → rowTest s a ≡ true → allRight s (a ∷ rs) ≡ allRight s rs
@@ -59,17 +61,17 @@ all-append s (a ∷ xs) ys = ap (λ (t : Bool). rowTest s a && t) (all-append s 
     and-assoc false u v = refl
 
 -- where the test fails, some row is not right
-wrong-one : (s rs : List ℕ) → allRight s rs ≡ false → (i : ℕ) × (i < length rs) × (RightAt s (getD rs i 0) → ⊥)
+wrong-one : (s rs : List ℕ) → allRight s rs ≡ false → (i : ℕ) × (i < length rs) × (RightAt (kindOf s) s (getD rs i 0) → ⊥)
 unfolding allRight
 wrong-one s [] h = absurd (true-false refl h)
 wrong-one s (a ∷ rs) h = go (rowTest s a) refl (wrong-one s rs)
   where
-    go : (t : Bool) → rowTest s a ≡ t → (allRight s rs ≡ false → (i : ℕ) × (i < length rs) × (RightAt s (getD rs i 0) → ⊥))
-        → (i : ℕ) × (i < length (a ∷ rs)) × (RightAt s (getD (a ∷ rs) i 0) → ⊥)
+    go : (t : Bool) → rowTest s a ≡ t → (allRight s rs ≡ false → (i : ℕ) × (i < length rs) × (RightAt (kindOf s) s (getD rs i 0) → ⊥))
+        → (i : ℕ) × (i < length (a ∷ rs)) × (RightAt (kindOf s) s (getD (a ∷ rs) i 0) → ⊥)
     go true p later =
         let w = later (sym (all-more s a rs p) ∙ h) in
         (suc (w .0), omega (arith, w .1), w .2)
-    go false p later = (0, omega arith, λ r. true-false (right-test (partAt s a) (lengthAt s a) r) p)
+    go false p later = (0, omega arith, λ r. true-false (right-test (kindOf s) (partAt (kindOf s) s a) (lengthAt s a) r) p)
 
 -- ---- what the inspection tells
 -- 10 the chain is not sound
@@ -148,26 +150,27 @@ inspect-wrong-only s e = go (inspection s) e
     go (is-right o) q = no-confusion cc
 
 -- ---- rows written out
--- good rows written out obey the layout
-pub written-obeys : (rs : List Labelled) (base : List ℕ) → Good rs base → Obeys (written rs base)
-written-obeys rs base g =
-    let s : List ℕ = written rs base in
-    let d : Labelled = record { label = 0; bits = [] } in
-    record {
-      records = places 1 rs;
-      sound = written-chain rs base g;
-      right = λ i l.
-          let a : ℕ = getD (places 1 rs) i 0 in
-          let x = written-row rs base g d i (omega (arith, length-places 1 rs)) in
-          subst (λ (n : ℕ). Right (partAt s a) n) (sym (x .size)) (x .right);
-    }
+module _ (K : Kind) (F : KindFits K) (N : KindNamed K) (rs : List Labelled) (base : List ℕ) (g : Good K rs base) where
+  -- good rows written out obey the layout
+  pub written-obeys : Obeys (written K rs base)
+  written-obeys =
+      let s : List ℕ = written K rs base in
+      let d : Labelled = record { label = 0; bits = [] } in
+      record {
+        records = places K 1 rs;
+        sound = written-chain K F N rs base g;
+        right = λ i l.
+            let a : ℕ = getD (places K 1 rs) i 0 in
+            let x = written-row K F N rs base g d i (omega (arith, length-places K F 1 rs)) in
+            subst (λ (k : Kind). RightAt k s a) (sym (written-kind K F N rs base g)) (subst (λ (n : ℕ). Right K (partAt K s a) n) (sym (x .size)) (x .right));
+      }
 
--- and the inspection answers their number
-pub written-inspected : (rs : List Labelled) (base : List ℕ) → Good rs base → inspectTold (written rs base) ≡ value (length rs)
-written-inspected rs base g =
-    inspect-accepts (written rs base) (written-obeys rs base g)
-    ∙ ap (λ (l : List ℕ). value (length l)) (written-records rs base g)
-    ∙ ap value (length-places 1 rs)
+  -- and the inspection answers their number
+  pub written-inspected : inspectTold (written K rs base) ≡ value (length rs)
+  written-inspected =
+      inspect-accepts (written K rs base) written-obeys
+      ∙ ap (λ (l : List ℕ). value (length l)) (written-records K F N rs base g)
+      ∙ ap value (length-places K F 1 rs)
 
 -- ---- the walk over the rows
 -- one that stands at byte `at` after `count` rows, all right
@@ -188,7 +191,7 @@ module _ {s : List ℕ} {at count : ℕ} (w : Inspected s at count) (n : at ≡ 
   turn = walk-turn (w .walk) n
 
   -- it stands at a sound record
-  pub inspected-record : RecordFacts s at
+  pub inspected-record : RecordFacts (kindOf s) s at
   inspected-record = turn .facts
 
   -- and the count with this one is at most 64
@@ -219,13 +222,14 @@ inspected-done {s} w z =
     let e = walk-done (w .walk) z in
     ap value (w .total ∙ ap length e) ∙ sym (right-told s (recordsOf s) (w .walk .chain) (ap (allRight s) (sym e) ∙ w .right))
 
--- a record's part and the length that it holds, as they are read
-module _ (s : List ℕ) (at : ℕ) (part : List ℕ) (n : ℕ) (f : RecordFacts s at) (p : part ≡ partAt s at) (l : n ≡ lengthAt part 0) where
+-- the part of a record of an image of kind K, and the length that it holds, as they are read
+module _ (K : Kind) (s : List ℕ) (at : ℕ) (part : List ℕ) (n : ℕ) (kind : kindOf s ≡ K) (f : RecordFacts (kindOf s) s at) (p : part ≡ partAt (kindOf s) s at)
+    (l : n ≡ lengthAt part 0) where
   its-length : n ≡ lengthAt s at
-  its-length = part-held s at f part n p l
+  its-length = part-held (kindOf s) s at f part n p l
 
-  pub read-good : goodPart part n ≡ true
-  read-good = ap₂ goodPart p its-length ∙ part-good s at f
+  pub read-good : goodPart K part n ≡ true
+  read-good = subst (λ (k : Kind). goodPart k part n ≡ true) kind (ap₂ (goodPart (kindOf s)) p its-length ∙ part-good (kindOf s) s at f)
 
-  pub read-right : rightPart part n ≡ rowTest s at
-  read-right = ap₂ rightPart p its-length
+  pub read-right : rightPart K part n ≡ rowTest s at
+  read-right = subst (λ (k : Kind). rightPart k part n ≡ rowTest s at) kind (ap₂ (rightPart (kindOf s)) p its-length)

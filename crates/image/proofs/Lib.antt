@@ -1,3 +1,4 @@
+pub mod KindLaws
 pub mod ChainLaws
 pub mod WalkLaws
 pub mod PutLaws
@@ -5,6 +6,7 @@ pub mod WriteLaws
 pub mod FreezeLaws
 pub mod RoundTripLaws
 pub mod NumberLaws
+pub mod CountLaws
 pub mod EntryLaws
 pub mod PartLaws
 pub mod RightLaws

@@ -1,12 +1,11 @@
--- The part of a row: the places of its numbers, entries and bits; what a right row's part holds there; and what the reading calls give.
--- Assumes nothing.
+-- The part of a row: its bits, what a right row's part holds, its index, and what the reading calls give. Assumes nothing.
 use mathlib.Core.Path.{_≡_, refl, sym, ap, ap₂, _∙_, subst}
 use mathlib.Core.Bool.{Bool, true, false}
 use mathlib.Core.Logic.{_⊎_, inl, inr}
 use mathlib.Core.List.{List}
 use mathlib.Core.Option.{none}
 use Prim.Native.Nat.{ℕ, suc, _+_, _-_, _*_, _/_, _%_, _^_, _≤_, _<_}
-use native.Mathlib.Nat.{two-pow-succ, min-eq-left, le-refl, mul-add, mul-one, mul-suc, mul-assoc, mul-le-mul-left, lt-mul-div-succ, mul-div-cancel-left}
+use native.Mathlib.Nat.{two-pow-succ, min-eq-left, le-refl, mul-zero, mul-add, mul-one, mul-le-mul-left, mod-lt, div-add-mod, div-lt-iff-lt-mul, mul-comm}
 use native.Mathlib.Omega.{arith}
 use lib.Dec.{leb, eqb}
 use borrow.Author.Tests.{leb-true, leb-false, eqb-true}
@@ -17,57 +16,40 @@ use Rattle.words.specs.Working.{ofValue, atMost}
 use Rattle.words.specs.Words.{placeIn}
 use Rattle.words.specs.Refusals.{Line, judge, Told, value, refused, found}
 use Rattle.words.proofs.BoolLaws.{and-first, and-second}
-use Rattle.words.proofs.Sums.{lt-or, sum-zero, ones-le, sum-mono, part-ones, length-listOf, getD-listOf}
+use Rattle.words.proofs.Sums.{lt-or, sum-zero, sum-split, ones-le, sum-mono, part-ones, length-listOf, getD-listOf}
 use Rattle.words.proofs.BitLaws.{bit-le, one-shl}
 use Rattle.words.proofs.SearchLaws.{select-exists, select-place, select-none, select-longer, rank-part, part-select, value-rank, value-le}
 use Rattle.counters.specs.Promises.{Promise, AtMost, Below}
 use Rattle.counters.proofs.PromiseLaws.{promise-passed}
 use Rattle.image.specs.Bytes.{num, bitFrom}
-use Rattle.image.specs.Layout.{headBytes, mostRow, superblocksIn, startIn, sizeIn, superblocksOf, bitsStart, sizeOf, entryOf, recordOf}
+use Rattle.image.specs.Kinds.{Kind}
+use Rattle.image.specs.Layout.{headBytes, mostRow, superblockBlocks, superblocksOf, entriesBytes, padBytes, bitsStart, sizeOf, entryOf, recordOf}
 use Rattle.image.specs.Chain.{lengthAt, onesAt, goodFields}
 use Rattle.image.specs.Rows.{rowBits, Right}
 use Rattle.image.specs.Calls.{goodPart}
-use Rattle.image.specs.Reading.{superblockField, blockField, entryOnes, Halved}
+use Rattle.image.specs.Reading.{entryNumber, onesTold, Halved, PadZero}
+use Rattle.image.proofs.KindLaws.{KindFits, EntryTells, blocks-all, superblocks-cover, superblock-begins}
 use Rattle.image.proofs.ChainLaws.{fields-facts}
-use Rattle.image.proofs.WriteLaws.{listOf-past, listOf-all, record-total, record-entry, record-bit, rank-all}
+use Rattle.image.proofs.WriteLaws.{listOf-past, listOf-all, record-total, record-pad, record-entry, record-bit, rank-all}
 use Rattle.image.proofs.NumberLaws.{bytes-bit}
-use Rattle.image.proofs.EntryLaws.{entry-before}
-
--- ---- sizes, for superblocks of bb bits and entries of eb bytes
-module _ (bb : ℕ) (pos : 0 < bb) (n : ℕ) where
-  -- the superblocks hold n bits
-  pub superblocks-cover : n ≤ bb * superblocksIn bb n
-  superblocks-cover = omega (arith, lt-mul-div-succ (n + (bb - 1)) pos, mul-add bb (superblocksIn bb n) 1, mul-one bb)
-
-  -- the bytes of entry e lie before the bits
-  pub entry-inside : (eb e : ℕ) → e < superblocksIn bb n → 16 + eb * e + eb ≤ startIn bb eb n
-  entry-inside eb e l = omega (arith, mul-le-mul-left eb l, mul-suc eb e)
-
-  -- the first k bytes of bits lie in the record
-  pub bytes-inside : (eb c k : ℕ) → bb ≡ 8 * c → 8 * k ≤ bb * superblocksIn bb n → startIn bb eb n + k ≤ sizeIn bb eb n
-  bytes-inside eb c k e l =
-      let d : bb / 8 ≡ c = ap (λ (x : ℕ). x / 8) e ∙ mul-div-cancel-left c (omega arith) in
-      let w : bb * superblocksIn bb n ≡ 8 * (c * superblocksIn bb n) = ap (λ (x : ℕ). x * superblocksIn bb n) e ∙ mul-assoc 8 c (superblocksIn bb n) in
-      let h : k ≤ c * superblocksIn bb n = omega arith in
-      omega (arith, ap (λ (x : ℕ). x * superblocksIn bb n) d)
 
 -- ---- the bits of a row
-module _ (part : List ℕ) (n : ℕ) where
+module _ (K : Kind) (part : List ℕ) (n : ℕ) where
   -- as many as the row is long
-  pub row-length : length (rowBits part n) ≡ n
-  row-length = length-listOf (bitFrom part (bitsStart n)) n
+  pub row-length : length (rowBits K part n) ≡ n
+  row-length = length-listOf (bitFrom part (bitsStart K n)) n
 
   -- those of the part
-  pub row-cell : (p : ℕ) → p < n → cell (rowBits part n) p ≡ bitFrom part (bitsStart n) p
-  row-cell p l = getD-listOf (bitFrom part (bitsStart n)) n p l
+  pub row-cell : (p : ℕ) → p < n → cell (rowBits K part n) p ≡ bitFrom part (bitsStart K n) p
+  row-cell p l = getD-listOf (bitFrom part (bitsStart K n)) n p l
 
   -- zero past the length
-  pub row-past : (p : ℕ) → n ≤ p → cell (rowBits part n) p ≡ 0
-  row-past p l = listOf-past (bitFrom part (bitsStart n)) n p l
+  pub row-past : (p : ℕ) → n ≤ p → cell (rowBits K part n) p ≡ 0
+  row-past p l = listOf-past (bitFrom part (bitsStart K n)) n p l
 
   -- each is 0 or 1
-  pub row-le : (p : ℕ) → cell (rowBits part n) p ≤ 1
-  row-le = listOf-all (λ x. x ≤ 1) (bitFrom part (bitsStart n)) n (λ p. bit-le (getD part (bitsStart n + p / 8) 0) (p % 8)) (omega arith)
+  pub row-le : (p : ℕ) → cell (rowBits K part n) p ≤ 1
+  row-le = listOf-all (λ x. x ≤ 1) (bitFrom part (bitsStart K n)) n (λ p. bit-le (getD part (bitsStart K n + p / 8) 0) (p % 8)) (omega arith)
 
 -- ---- a row by its index
 -- the bits of a part from byte `start` on are f, of which n bits lie in `blocks` blocks of 512 bits; `told m` is the ones before block m
@@ -77,53 +59,70 @@ pub record Indexed (part : List ℕ) (start blocks n : ℕ) (f told : ℕ → �
   pub before : (m : ℕ) → m < blocks → told m ≡ ones f (512 * m)
   pub bits : (p : ℕ) → p < 512 * blocks → bitFrom part start p ≡ f p
 
--- of a right row: the number of its ones, and its index
-module _ (part : List ℕ) (n : ℕ) (short : n ≤ mostRow) (right : Right part n) where
+-- of a right row: the number of its ones, its entries, its bits, and its index
+module _ (K : Kind) (part : List ℕ) (n : ℕ) (short : n ≤ mostRow) (right : Right K part n) where
   -- its bits
   abbrev t : List ℕ
-  t = rowBits part n
+  t = rowBits K part n
 
   long : length t ≡ n
-  long = row-length part n
+  long = row-length K part n
 
   -- a number in it
-  right-num : (at k : ℕ) → num part at k ≡ num (recordOf (num part 0 4) (num part 4 4) t) at k
+  right-num : (at k : ℕ) → num part at k ≡ num (recordOf K (num part 0 4) (num part 4 4) t) at k
   right-num at k = ap (λ (l : List ℕ). num l at k) right
 
   pub right-total : onesAt part 0 ≡ ones (cell t) n
   right-total =
       right-num 12 4
-      ∙ record-total (num part 0 4) (num part 4 4) t (row-le part n) (omega (arith, long))
-      ∙ rank-all t (row-le part n)
+      ∙ record-total K (num part 0 4) (num part 4 4) t (row-le K part n) (omega (arith, long))
+      ∙ rank-all t (row-le K part n)
       ∙ ap (ones (cell t)) long
 
-  -- entry e
-  pub right-entry : (e : ℕ) → e < superblocksOf n → num part (16 + 16 * e) 16 ≡ entryOf (cell t) e
-  right-entry e l =
-      right-num (16 + 16 * e) 16
-      ∙ record-entry (num part 0 4) (num part 4 4) t (row-le part n) e (omega (arith, long)) (omega (arith, ap superblocksOf long))
+  -- the bytes that pad its entries
+  pub right-pad : PadZero K part n
+  right-pad i h =
+      ap₂ (λ (x : List ℕ) (m : ℕ). getD x (headBytes + entriesBytes K m + i) 0) right (sym long)
+      ∙ record-pad K (num part 0 4) (num part 4 4) t i (omega (arith, ap (padBytes K) long))
 
-  -- the ones before block m, by the entry of its superblock
-  right-before : (m : ℕ) → m < 8 * superblocksOf n → entryOnes part m ≡ ones (cell t) (512 * m)
-  unfolding entryOnes
-  right-before m l =
-      ap (λ (v : ℕ). superblockField v + blockField v (m % 8)) (right-entry (m / 8) (omega arith))
-      ∙ entry-before (cell t) m (omega (arith, ones-le (cell t) (4096 * (m / 8)) (row-le part n))) (row-le part n)
+  module _ (F : KindFits K) where
+    -- the bits, padding too
+    pub right-bits : (p : ℕ) → p < K .superblockBits * superblocksOf K n → bitFrom part (bitsStart K n) p ≡ cell t p
+    right-bits p l =
+        ap₂ (λ (x : List ℕ) (m : ℕ). bitFrom x (bitsStart K m) p) right (sym long)
+        ∙ record-bit K (num part 0 4) (num part 4 4) t (row-le K part n) F p (omega (arith, ap (λ (m : ℕ). K .superblockBits * superblocksOf K m) long))
 
-  -- the bits, padding too
-  pub right-bits : (p : ℕ) → p < 4096 * superblocksOf n → bitFrom part (bitsStart n) p ≡ cell t p
-  right-bits p l =
-      ap₂ (λ (x : List ℕ) (m : ℕ). bitFrom x (bitsStart m) p) right (sym long)
-      ∙ record-bit (num part 0 4) (num part 4 4) t (row-le part n) p (omega (arith, ap superblocksOf long))
+    module _ {told : ℕ → ℕ → ℕ} (T : EntryTells K told) where
+      -- entry e
+      pub right-entry : (e : ℕ) → e < superblocksOf K n → entryNumber K part e ≡ entryOf K (cell t) e
+      right-entry e l =
+          right-num (headBytes + K .entryBytes * e) (K .entryBytes)
+          ∙ record-entry K (num part 0 4) (num part 4 4) t (row-le K part n) F T e (omega (arith, long)) (omega (arith, ap (superblocksOf K) long))
 
-  pub right-indexed : Indexed part (bitsStart n) (8 * superblocksOf n) n (cell t) (entryOnes part)
-  right-indexed =
-      record {
-        cover = omega (arith, superblocks-cover 4096 (omega arith) n);
-        small = row-le part n;
-        before = right-before;
-        bits = λ p l. right-bits p (omega arith);
-      }
+      -- the ones before block m, by the entry of its superblock
+      right-before : (m : ℕ) → m < superblockBlocks K * superblocksOf K n → onesTold K told part m ≡ ones (cell t) (512 * m)
+      unfolding entryOf
+      right-before m l =
+          let c : ℕ = superblockBlocks K in
+          let e : ℕ = m / c in
+          let b : ℕ = K .superblockBits * e in
+          let inside : e < superblocksOf K n = div-lt-iff-lt-mul (F .least) .1 (subst (λ (x : ℕ). m < x) (mul-comm c (superblocksOf K n)) l) in
+          let place : b + 512 * (m % c) ≡ 512 * m = omega (arith, blocks-all K F e, div-add-mod m c) in
+          ap (λ (v : ℕ). told v (m % c)) (right-entry e inside)
+          ∙ T .tells (λ p. cell t (b + p)) (ones (cell t) b) (m % c) (λ p. row-le K part n (b + p))
+          (omega (arith, ones-le (cell t) b (row-le K part n), superblock-begins K F n e inside)) (mod-lt m (F .least))
+          ∙ sym (sum-split (cell t) b (512 * (m % c)))
+          ∙ ap (ones (cell t)) place
+
+      pub right-indexed : Indexed part (bitsStart K n) (superblockBlocks K * superblocksOf K n) n (cell t) (onesTold K told part)
+      right-indexed =
+          let whole : 512 * (superblockBlocks K * superblocksOf K n) ≡ K .superblockBits * superblocksOf K n = blocks-all K F (superblocksOf K n) in
+          record {
+            cover = omega (arith, superblocks-cover K F n, whole);
+            small = row-le K part n;
+            before = right-before;
+            bits = λ p l. right-bits p (omega (arith, whole));
+          }
 
 -- the bits from k bytes past `start` on are those from bit 8 k on
 pub bits-from : (s : List ℕ) (start at k m p : ℕ) → at ≡ start + k → 8 * k ≡ m → bitFrom s at p ≡ bitFrom s start (m + p)
@@ -182,21 +181,24 @@ module _ (P : ℕ → ℕ) (end k : ℕ) where
             subst (λ (x : ℕ). (x < end) × Halved P end k x (x + 2 ^ (t - 1))) (sym m)
             (first, record { low = h .low; high = inr (subst (λ (x : ℕ). k < P (lo + x)) step (leb-false (P mid) k q)) })
 
--- from superblocks to their blocks
-pub halved-blocks : (P : ℕ → ℕ) (end k b : ℕ) → Halved (λ i. P (8 * i)) ((end + 7) / 8) k b (b + 1) → Halved P end k (8 * b) (8 * b + 2 ^ 3)
-halved-blocks P end k b h = record { low = go (h .low); high = up (h .high) }
+-- from superblocks to their blocks, w each
+pub halved-blocks : (P : ℕ → ℕ) (w count end k b : ℕ) → end ≤ w * count → Halved (λ i. P (w * i)) count k b (b + 1) → Halved P end k (w * b) (w * b + w)
+halved-blocks P w count end k b all h = record { low = go (h .low); high = up (h .high) }
   where
-    go : (b ≡ 0) ⊎ (P (8 * b) ≤ k) → (8 * b ≡ 0) ⊎ (P (8 * b) ≤ k)
-    go (inl e) = inl (omega arith)
+    next : w * (b + 1) ≡ w * b + w
+    next = mul-add w b 1 ∙ ap (λ (x : ℕ). w * b + x) (mul-one w)
+
+    go : (b ≡ 0) ⊎ (P (w * b) ≤ k) → (w * b ≡ 0) ⊎ (P (w * b) ≤ k)
+    go (inl e) = inl (ap (λ (x : ℕ). w * x) e ∙ mul-zero w)
     go (inr l) = inr l
 
-    up : ((end + 7) / 8 ≤ b + 1) ⊎ (k < P (8 * (b + 1))) → (end ≤ 8 * b + 2 ^ 3) ⊎ (k < P (8 * b + 2 ^ 3))
-    up (inl l) = inl (omega arith)
-    up (inr l) = let e : 8 * (b + 1) ≡ 8 * b + 2 ^ 3 = omega arith in inr (subst (λ (x : ℕ). k < P x) e l)
+    up : (count ≤ b + 1) ⊎ (k < P (w * (b + 1))) → (end ≤ w * b + w) ⊎ (k < P (w * b + w))
+    up (inl l) = inl (omega (arith, mul-le-mul-left w l, next))
+    up (inr l) = inr (subst (λ (x : ℕ). k < P x) next l)
 
 -- the bits of a row, zero past its length
-abbrev pub bitsOf : List ℕ → ℕ → ℕ → ℕ
-bitsOf part n = cell (rowBits part n)
+abbrev pub bitsOf : Kind → List ℕ → ℕ → ℕ → ℕ
+bitsOf K part n = cell (rowBits K part n)
 
 -- ---- block m of a row by its index, whatever its layout
 module _ (part : List ℕ) (start blocks n : ℕ) (f told : ℕ → ℕ) (x : Indexed part start blocks n f told) (m : ℕ) where
@@ -255,92 +257,94 @@ module _ (part : List ℕ) (start blocks n : ℕ) (f told : ℕ → ℕ) (x : In
 
 -- ---- what the check of a part leaves
 -- the length held is the record's
-pub good-length : (part : List ℕ) (n : ℕ) → goodPart part n ≡ true → n ≡ lengthAt part 0
+pub good-length : (K : Kind) (part : List ℕ) (n : ℕ) → goodPart K part n ≡ true → n ≡ lengthAt part 0
 unfolding goodPart
-good-length part n h =
+good-length K part n h =
     eqb-true n (lengthAt part 0)
-    (and-second (eqb (length part) (sizeOf (lengthAt part 0))) _ (and-second (goodFields part 0) _ (and-second (leb headBytes (length part)) _ h)))
+    (and-second (eqb (length part) (sizeOf K (lengthAt part 0))) _ (and-second (goodFields part 0) _ (and-second (leb headBytes (length part)) _ h)))
 
 -- and the part has the size of its record
-pub good-part : (part : List ℕ) (n : ℕ) → goodPart part n ≡ true → (headBytes ≤ length part) × (length part ≡ sizeOf n) × (n ≤ mostRow)
+pub good-part : (K : Kind) (part : List ℕ) (n : ℕ) → goodPart K part n ≡ true → (headBytes ≤ length part) × (length part ≡ sizeOf K n) × (n ≤ mostRow)
 unfolding goodPart
-good-part part n h =
-    let e = good-length part n h in
+good-part K part n h =
+    let e = good-length K part n h in
     let rest = and-second (leb headBytes (length part)) _ h in
     let sized = and-second (goodFields part 0) _ rest in (
       leb-true headBytes (length part) (and-first (leb headBytes (length part)) _ h),
-      eqb-true (length part) (sizeOf (lengthAt part 0)) (and-first (eqb (length part) (sizeOf (lengthAt part 0))) _ sized) ∙ ap sizeOf (sym e),
+      eqb-true (length part) (sizeOf K (lengthAt part 0)) (and-first (eqb (length part) (sizeOf K (lengthAt part 0))) _ sized) ∙ ap (sizeOf K) (sym e),
       omega (arith, fields-facts part 0 (and-first (goodFields part 0) _ rest) .2),
     )
 
 -- ---- count, where a call's table passes: x is what the entry and the bits say
-module _ (t : List Line) (part : List ℕ) (n v i x : ℕ) (pass : judge t ≡ none) (small : v ≤ 1) (within : i ≤ n)
-    (counted : Right part n → x ≡ ones (bitsOf part n) i) where
+module _ (K : Kind) (t : List Line) (part : List ℕ) (n v i x : ℕ) (pass : judge t ≡ none) (small : v ≤ 1) (within : i ≤ n)
+    (counted : Right K part n → x ≡ ones (bitsOf K part n) i) where
   -- count(v, i) of the row's bits
-  row-rank : rank (rowBits part n) v i ≡ rankOf (bitsOf part n) v i
-  row-rank = ap (rankOf (bitsOf part n) v) (min-eq-left (subst (λ (m : ℕ). i ≤ m) (sym (row-length part n)) within))
+  row-rank : rank (rowBits K part n) v i ≡ rankOf (bitsOf K part n) v i
+  row-rank = ap (rankOf (bitsOf K part n) v) (min-eq-left (subst (λ (m : ℕ). i ≤ m) (sym (row-length K part n)) within))
 
   -- at most i ones before position i: the number of v
   pub rank-done : (r : ℕ) → x ≤ i → r ≡ ofValue v i x
-      → Promise Told (judge t) refused (value (rank (rowBits part n) v i)) (Right part n) (AtMost 15 i) (value r)
+      → Promise Told (judge t) refused (value (rank (rowBits K part n) v i)) (Right K part n) (AtMost 15 i) (value r)
   rank-done r le e =
-      promise-passed t refused (value (rank (rowBits part n) v i)) (Right part n) (AtMost 15 i) (value r) pass
-      (λ right. ap value (e ∙ ap (ofValue v i) (counted right) ∙ value-rank (bitsOf part n) v i (row-le part n) small ∙ sym row-rank))
+      promise-passed t refused (value (rank (rowBits K part n) v i)) (Right K part n) (AtMost 15 i) (value r) pass
+      (λ right. ap value (e ∙ ap (ofValue v i) (counted right) ∙ value-rank (bitsOf K part n) v i (row-le K part n) small ∙ sym row-rank))
       (AtMost.is r (omega (arith, e, value-le v i x le)))
 
   -- more than i: no right row
-  pub rank-wrong : i < x → Promise Told (judge t) refused (value (rank (rowBits part n) v i)) (Right part n) (AtMost 15 i) (refused 15)
+  pub rank-wrong : i < x → Promise Told (judge t) refused (value (rank (rowBits K part n) v i)) (Right K part n) (AtMost 15 i) (refused 15)
   rank-wrong l =
-      promise-passed t refused (value (rank (rowBits part n) v i)) (Right part n) (AtMost 15 i) (refused 15) pass
-      (λ right. absurd (omega (arith, counted right, ones-le (bitsOf part n) i (row-le part n))))
+      promise-passed t refused (value (rank (rowBits K part n) v i)) (Right K part n) (AtMost 15 i) (refused 15) pass
+      (λ right. absurd (omega (arith, counted right, ones-le (bitsOf K part n) i (row-le K part n))))
       AtMost.unfit
 
 -- ---- find, where a call's table passes: x is the number of ones that the record says
-module _ (t : List Line) (part : List ℕ) (n v k x : ℕ) (pass : judge t ≡ none) (small : v ≤ 1) (short : n ≤ mostRow) (said : x ≡ onesAt part 0) where
+module _ (K : Kind) (t : List Line) (part : List ℕ) (n v k x : ℕ) (pass : judge t ≡ none) (small : v ≤ 1) (short : n ≤ mostRow) (said : x ≡ onesAt part 0) where
   -- of a right row, that of its bits
-  total-is : Right part n → x ≡ ones (bitsOf part n) n
-  total-is right = said ∙ right-total part n short right
+  total-is : Right K part n → x ≡ ones (bitsOf K part n) n
+  total-is right = said ∙ right-total K part n short right
 
   -- and the number of v is count(v, n)
-  number-is : Right part n → ofValue v n x ≡ rankOf (bitsOf part n) v n
-  number-is right = ap (ofValue v n) (total-is right) ∙ value-rank (bitsOf part n) v n (row-le part n) small
+  number-is : Right K part n → ofValue v n x ≡ rankOf (bitsOf K part n) v n
+  number-is right = ap (ofValue v n) (total-is right) ∙ value-rank (bitsOf K part n) v n (row-le K part n) small
 
   -- find(v, k) of the row's bits
-  row-select : select (rowBits part n) v k ≡ selectOf (bitsOf part n) n v k
-  row-select = ap (λ (m : ℕ). selectOf (bitsOf part n) m v k) (row-length part n)
+  row-select : select (rowBits K part n) v k ≡ selectOf (bitsOf K part n) n v k
+  row-select = ap (λ (m : ℕ). selectOf (bitsOf K part n) m v k) (row-length K part n)
 
   -- more ones than bits: no right row
-  pub select-over : n < x → Promise Told (judge t) refused (found (select (rowBits part n) v k)) (Right part n) (Below 15 n) (refused 15)
+  pub select-over : n < x → Promise Told (judge t) refused (found (select (rowBits K part n) v k)) (Right K part n) (Below 15 n) (refused 15)
   select-over l =
-      promise-passed t refused (found (select (rowBits part n) v k)) (Right part n) (Below 15 n) (refused 15) pass
-      (λ right. absurd (omega (arith, total-is right, ones-le (bitsOf part n) n (row-le part n))))
+      promise-passed t refused (found (select (rowBits K part n) v k)) (Right K part n) (Below 15 n) (refused 15) pass
+      (λ right. absurd (omega (arith, total-is right, ones-le (bitsOf K part n) n (row-le K part n))))
       Below.unfit
 
   -- k not below the number of v: no such stroke
-  pub select-absent : ofValue v n x ≤ k → Promise Told (judge t) refused (found (select (rowBits part n) v k)) (Right part n) (Below 15 n) (refused 6)
+  pub select-absent : ofValue v n x ≤ k → Promise Told (judge t) refused (found (select (rowBits K part n) v k)) (Right K part n) (Below 15 n) (refused 6)
   select-absent l =
-      promise-passed t refused (found (select (rowBits part n) v k)) (Right part n) (Below 15 n) (refused 6) pass
-      (λ right. sym (ap found (row-select ∙ select-none (bitsOf part n) n v k (omega (arith, number-is right)))))
+      promise-passed t refused (found (select (rowBits K part n) v k)) (Right K part n) (Below 15 n) (refused 6) pass
+      (λ right. sym (ap found (row-select ∙ select-none (bitsOf K part n) n v k (omega (arith, number-is right)))))
       Below.absent
 
   -- the position that the entries lead to
-  module _ (p : ℕ) (more : k < ofValue v n x) (place : Right part n → k < rankOf (bitsOf part n) v n → p ≡ placeIn n (selectOf (bitsOf part n) n v k)) where
-    -- of a right row, it is the stroke's
-    place-is : Right part n → (value p ≡ found (select (rowBits part n) v k)) × (p < n)
-    place-is right =
-        let few : k < rankOf (bitsOf part n) v n = omega (arith, number-is right) in
-        let w = select-exists (bitsOf part n) n v k few in
-        let e : p ≡ w .0 = place right few ∙ ap (placeIn n) (w .1) in
-        (ap value e ∙ sym (ap found (row-select ∙ w .1)), omega (arith, select-place (bitsOf part n) n v k (w .0) (w .1) .below))
+  module _ (p : ℕ) (more : k < ofValue v n x) (place : Right K part n → k < rankOf (bitsOf K part n) v n → p ≡ placeIn n (selectOf (bitsOf K part n) n v k))
+    where
+      -- of a right row, it is the stroke's
+      place-is : Right K part n → (value p ≡ found (select (rowBits K part n) v k)) × (p < n)
+      place-is right =
+          let few : k < rankOf (bitsOf K part n) v n = omega (arith, number-is right) in
+          let w = select-exists (bitsOf K part n) n v k few in
+          let e : p ≡ w .0 = place right few ∙ ap (placeIn n) (w .1) in
+          (ap value e ∙ sym (ap found (row-select ∙ w .1)), omega (arith, select-place (bitsOf K part n) n v k (w .0) (w .1) .below))
 
-    -- a position below the length is the answer
-    pub select-done : p < n → Promise Told (judge t) refused (found (select (rowBits part n) v k)) (Right part n) (Below 15 n) (value p)
-    select-done l =
-        promise-passed t refused (found (select (rowBits part n) v k)) (Right part n) (Below 15 n) (value p) pass (λ right. place-is right .0) (Below.is p l)
+      -- a position below the length is the answer
+      pub select-done : p < n → Promise Told (judge t) refused (found (select (rowBits K part n) v k)) (Right K part n) (Below 15 n) (value p)
+      select-done l =
+          promise-passed t refused (found (select (rowBits K part n) v k)) (Right K part n) (Below 15 n) (value p) pass (λ right. place-is right .0)
+          (Below.is p l)
 
-    -- none: no right row
-    pub select-past : n ≤ p → Promise Told (judge t) refused (found (select (rowBits part n) v k)) (Right part n) (Below 15 n) (refused 15)
-    select-past l =
-        promise-passed t refused (found (select (rowBits part n) v k)) (Right part n) (Below 15 n) (refused 15) pass
-        (λ right. absurd (omega (arith, place-is right .1)))
-        Below.unfit
+      -- none: no right row
+      pub select-past : n ≤ p → Promise Told (judge t) refused (found (select (rowBits K part n) v k)) (Right K part n) (Below 15 n) (refused 15)
+      select-past l =
+          promise-passed t refused (found (select (rowBits K part n) v k)) (Right K part n) (Below 15 n) (refused 15) pass
+          (λ right. absurd (omega (arith, place-is right .1)))
+          Below.unfit

@@ -18,7 +18,7 @@ use Rattle.words.proofs.BoolLaws.{not-not}
 use Rattle.words.proofs.CheckLaws.{passes}
 use Rattle.image.specs.Bytes.{num}
 use Rattle.image.specs.Layout.{unitBytes}
-use Rattle.image.specs.Chain.{nextAt, labelAt, lengthAt, goodLabel, chainOf, placeOf}
+use Rattle.image.specs.Chain.{kindOf, nextAt, labelAt, lengthAt, goodLabel, chainOf, placeOf}
 use Rattle.image.specs.Calls.{isSome, recordsOf, soundLine, openTable, openTold, rowPlace, rowLength, rowLengthTold, rowLabelTold}
 use Rattle.image.proofs.ChainLaws.{RecordFacts, label-good, chain-facts, some-in, value-told, opened-value, opened-refused}
 use Rattle.image.proofs.WalkLaws.{SoundWalk, Turn, walk-none, walk-turn, walk-done}
@@ -75,7 +75,7 @@ module _ {s : List ℕ} {k at left : ℕ} (w : Nearing s k at left) (n : at ≡ 
   turn = walk-turn (w .walk) n
 
   -- which is sound
-  pub nearing-record : RecordFacts s at
+  pub nearing-record : RecordFacts (kindOf s) s at
   nearing-record = turn .facts
 
   -- it is row k

@@ -1,15 +1,15 @@
--- A right row, one by one: its ones, its entries and its padding; and the inspection of a row. Assumes nothing.
+-- A right row, one by one: its ones, its entries with what pads them, and its padding; and the inspection of a row. Assumes nothing.
 use mathlib.Core.Path.{_≡_, refl, sym, ap, ap₂, _∙_, subst}
 use mathlib.Core.Bool.{Bool, true, false, not, false≢true}
 use mathlib.Core.Logic.{_⊎_, inl, inr, ⊎-elim}
-use mathlib.Core.List.{List, _++_, append-assoc}
+use mathlib.Core.List.{List, _∷_, _++_, append-assoc}
 use Prim.Native.Nat.{ℕ, zero, suc, _+_, _-_, _*_, _/_, _%_, _^_, _≤_, _<_}
-use native.Mathlib.Nat.{le-refl, lt-of-lt-of-le}
+use native.Mathlib.Nat.{le-refl, lt-of-lt-of-le, mul-zero, mul-one, mul-suc, mul-add, mul-le-mul-left}
 use native.Mathlib.Omega.{arith}
-use lib.Dec.{eqb, lit<}
+use lib.Dec.{eqb}
 use lib.Pow.{pow-mono, shr-lt}
 use lib.ListN.{length, getD, drop, length-drop}
-use lib.Seq.{ext-getD, getD-drop}
+use lib.Seq.{ext-getD, getD-drop, drop-cons}
 use borrow.Author.Tests.{eqb-true, eqb-false, eq-eqb, not-true, not-false}
 use Rattle.words.specs.Bits.{bit, bitAt, ones, same}
 use Rattle.words.specs.Strip.{cell, rank}
@@ -18,57 +18,82 @@ use Rattle.words.proofs.BitLaws.{zero-bit, bit-shr, bit-high}
 use Rattle.words.proofs.ScanLaws.{some-one}
 use Rattle.words.proofs.DigitLaws.{digits-ext}
 use Rattle.image.specs.Bytes.{num, le, bitFrom}
-use Rattle.image.specs.Layout.{superblockBits, headBytes, entryBytes, mostRow, superblocksOf, bitsStart, entryOf, entriesFrom, bytesOf, recordOf}
+use Rattle.image.specs.Kinds.{Kind}
+use Rattle.image.specs.Layout.{headBytes, mostRow, superblockBlocks, superblockBytes, superblocksOf, entriesBytes, padBytes, bitsStart, entryOf, entriesFrom, zeros, bytesOf, recordOf}
 use Rattle.image.specs.Chain.{lengthAt, onesAt}
 use Rattle.image.specs.Rows.{rowBits, Right, rightPart}
 use Rattle.image.specs.Calls.{goodPart}
-use Rattle.image.specs.Writing.{BlockCounts, EntryFits, entryFrom, HalvesOf, superblockCells}
-use Rattle.image.specs.Reading.{PaddingZero}
+use Rattle.image.specs.Writing.{BlockCounts, superblockCells}
+use Rattle.image.specs.Reading.{entryNumber, PadZero, PaddingZero}
 use Rattle.words.proofs.SameLaws.{same-eq, same-refl}
+use Rattle.image.proofs.KindLaws.{KindFits, EntryTells, bytes-all, superblocks-cover, pad-ends}
 use Rattle.image.proofs.ChainLaws.{decides}
-use Rattle.image.proofs.NumberLaws.{num-halves}
-use Rattle.image.proofs.EntryLaws.{counts-fit, entry-made, counts-ext, entry-placed}
+use Rattle.image.proofs.CountLaws.{counts-ext, counts-all}
 use Rattle.image.proofs.PutLaws.{drop-num}
-use Rattle.image.proofs.WriteLaws.{length-bytes, bytes-at, byte-digits, ones-past, rank-all}
-use Rattle.image.proofs.PartLaws.{row-length, row-cell, row-past, row-le, good-part, good-length, right-total, right-entry, right-bits, bits-from}
+use Rattle.image.proofs.WriteLaws.{length-bytes, bytes-at, byte-digits, ones-past, rank-all, entry-placed}
+use Rattle.image.proofs.PartLaws.{row-length, row-cell, row-past, row-le, good-part, good-length, right-total, right-entry, right-pad, right-bits, bits-from}
 
--- its number of ones, every entry, and zeros past its length
-pub record RightFacts (part : List ℕ) (n : ℕ) : Type 0 where
-  pub total : onesAt part 0 ≡ rank (rowBits part n) 1 (length (rowBits part n))
-  pub entries : (e : ℕ) → e < superblocksOf n → num part (headBytes + entryBytes * e) entryBytes ≡ entryOf (cell (rowBits part n)) e
-  pub padding : PaddingZero part n
+-- its number of ones, every entry, zeros that pad its entries, and zeros past its length
+pub record RightFacts (K : Kind) (part : List ℕ) (n : ℕ) : Type 0 where
+  pub total : onesAt part 0 ≡ rank (rowBits K part n) 1 (length (rowBits K part n))
+  pub entries : (e : ℕ) → e < superblocksOf K n → entryNumber K part e ≡ entryOf K (cell (rowBits K part n)) e
+  pub pad : PadZero K part n
+  pub padding : PaddingZero K part n
 
--- a right row has them
-pub right-facts : (part : List ℕ) (n : ℕ) → n ≤ mostRow → Right part n → RightFacts part n
-right-facts part n short right =
-    let t : List ℕ = rowBits part n in
-    let long = row-length part n in
+-- a right row's number of ones
+pub right-ones : (K : Kind) (part : List ℕ) (n : ℕ) → n ≤ mostRow → Right K part n → onesAt part 0 ≡ rank (rowBits K part n) 1 (length (rowBits K part n))
+right-ones K part n short right =
+    let t : List ℕ = rowBits K part n in
+    right-total K part n short right ∙ ap (ones (cell t)) (sym (row-length K part n)) ∙ sym (rank-all t (row-le K part n))
+
+-- it has them all
+pub right-facts : (K : Kind) → KindFits K → {told : ℕ → ℕ → ℕ} → EntryTells K told → (part : List ℕ) (n : ℕ) → n ≤ mostRow → Right K part n
+    → RightFacts K part n
+right-facts K F T part n short right =
     record {
-      total = right-total part n short right ∙ ap (ones (cell t)) (sym long) ∙ sym (rank-all t (row-le part n));
-      entries = right-entry part n short right;
-      padding = λ p h l. right-bits part n short right p l ∙ row-past part n p h;
+      total = right-ones K part n short right;
+      entries = right-entry K part n short right F T;
+      pad = right-pad K part n short right;
+      padding = λ p h l. right-bits K part n short right F p l ∙ row-past K part n p h;
     }
 
 -- zeros past its length: its bits are those of the part to the end of its superblocks
-padded-bits : (part : List ℕ) (n : ℕ) → PaddingZero part n → (p : ℕ) → p < 4096 * superblocksOf n → bitFrom part (bitsStart n) p ≡ cell (rowBits part n) p
-padded-bits part n zeros p l =
-    ⊎-elim (λ q. sym (row-cell part n p q)) (λ q. zeros p q l ∙ sym (row-past part n p q)) (lt-or p n)
+padded-bits : (K : Kind) (part : List ℕ) (n : ℕ) → PaddingZero K part n → (p : ℕ) → p < K .superblockBits * superblocksOf K n
+    → bitFrom part (bitsStart K n) p ≡ cell (rowBits K part n) p
+padded-bits K part n zeros p l =
+    ⊎-elim (λ q. sym (row-cell K part n p q)) (λ q. zeros p q l ∙ sym (row-past K part n p q)) (lt-or p n)
 
 -- ---- and they make it right
 -- entries that are right, one after another
-entries-drop : (part : List ℕ) (f : ℕ → ℕ) (e k : ℕ) → ((i : ℕ) → getD part i 0 < 256) → 16 + 16 * (e + k) ≤ length part
-    → ((i : ℕ) → i < e + k → num part (16 + 16 * i) 16 ≡ entryOf f i) → drop (16 + 16 * e) part ≡ entriesFrom f e k ++ drop (16 + 16 * (e + k)) part
+entries-drop : (K : Kind) (part : List ℕ) (f : ℕ → ℕ) (e k : ℕ) → ((i : ℕ) → getD part i 0 < 256) → headBytes + K .entryBytes * (e + k) ≤ length part
+    → ((i : ℕ) → i < e + k → entryNumber K part i ≡ entryOf K f i)
+    → drop (headBytes + K .entryBytes * e) part ≡ entriesFrom K f e k ++ drop (headBytes + K .entryBytes * (e + k)) part
 unfolding entriesFrom
-entries-drop part f e zero small h is = let z : e ≡ e + 0 = omega arith in ap (λ (x : ℕ). drop (16 + 16 * x) part) z
-entries-drop part f e (suc k) small h is =
-    let i : 16 + 16 * e + 16 ≡ 16 + 16 * suc e = omega arith in
+entries-drop K part f e zero small h is = let z : e ≡ e + 0 = omega arith in ap (λ (x : ℕ). drop (headBytes + K .entryBytes * x) part) z
+entries-drop K part f e (suc k) small h is =
+    let eb : ℕ = K .entryBytes in
+    let i : headBytes + eb * e + eb ≡ headBytes + eb * suc e = omega (arith, mul-suc eb e) in
     let j : suc e + k ≡ e + suc k = omega arith in
-    drop-num part (16 + 16 * e) 16 (entryOf f e) small (omega arith) (is e (omega arith))
-    ∙ ap (λ (l : List ℕ). le 16 (entryOf f e) ++ l)
+    let w : e + 1 ≤ e + suc k = omega arith in
+    let next : eb * (e + 1) ≡ eb * e + eb = mul-add eb e 1 ∙ ap (λ (x : ℕ). eb * e + x) (mul-one eb) in
+    let own : List ℕ = le eb (entryOf K f e) in
+    drop-num part (headBytes + eb * e) eb (entryOf K f e) small (omega (arith, h, mul-le-mul-left eb w, next)) (is e (omega arith))
+    ∙ ap (λ (l : List ℕ). own ++ l)
     (ap (λ (x : ℕ). drop x part) i
-    ∙ entries-drop part f (suc e) k small (omega arith) (λ x l. is x (omega arith))
-    ∙ ap (λ (x : ℕ). entriesFrom f (suc e) k ++ drop (16 + 16 * x) part) j)
-    ∙ sym (append-assoc (le 16 (entryOf f e)) (entriesFrom f (suc e) k) (drop (16 + 16 * (e + suc k)) part))
+    ∙ entries-drop K part f (suc e) k small (subst (λ (x : ℕ). headBytes + eb * x ≤ length part) (sym j) h) (λ x l. is x (omega arith))
+    ∙ ap (λ (x : ℕ). entriesFrom K f (suc e) k ++ drop (headBytes + eb * x) part) j)
+    ∙ sym (append-assoc own (entriesFrom K f (suc e) k) (drop (headBytes + eb * (e + suc k)) part))
+
+-- zeros
+zeros-drop : (part : List ℕ) (a m : ℕ) → a + m ≤ length part → ((i : ℕ) → i < m → getD part (a + i) 0 ≡ 0) → drop a part ≡ zeros m ++ drop (a + m) part
+zeros-drop part a zero h is = let z : a ≡ a + 0 = omega arith in ap (λ (x : ℕ). drop x part) z
+zeros-drop part a (suc m) h is =
+    let i : suc a + m ≡ a + suc m = omega arith in
+    let j : a ≡ a + 0 = omega arith in
+    drop-cons part a 0 (omega arith)
+    ∙ ap₂ (λ (x : ℕ) (l : List ℕ). x ∷ l) (ap (λ (x : ℕ). getD part x 0) j ∙ is 0 (omega arith))
+    (zeros-drop part (suc a) m (omega arith) (λ k l. let e : suc a + k ≡ a + suc k = omega arith in ap (λ (x : ℕ). getD part x 0) e ∙ is (suc k) (omega arith))
+    ∙ ap (λ (x : ℕ). zeros m ++ drop x part) i)
 
 -- bytes whose bits are f
 bytes-drop : (part : List ℕ) (start m : ℕ) (f : ℕ → ℕ) → ((i : ℕ) → getD part i 0 < 256) → length part ≡ start + m
@@ -86,19 +111,29 @@ bytes-drop part start m f small long is =
     sym (ap₂ (λ (y z : ℕ). bit (getD part y 0) z) a b) ∙ is (8 * i + j) (omega arith))
     ∙ sym (bytes-at f m i k))
 
--- so a part that is one record of length n is right where its ones, entries and padding are
-pub facts-right : (part : List ℕ) (n : ℕ) → goodPart part n ≡ true → ((i : ℕ) → getD part i 0 < 256) → RightFacts part n → Right part n
+-- so a part that is one record of length n is right where its ones, entries, pad and padding are
+pub facts-right : (K : Kind) → KindFits K → (part : List ℕ) (n : ℕ) → goodPart K part n ≡ true → ((i : ℕ) → getD part i 0 < 256) → RightFacts K part n
+    → Right K part n
 unfolding recordOf goodPart
-facts-right part n good small f =
-    let g = good-part part n good in
-    let t : List ℕ = rowBits part n in
-    let long : length t ≡ n = row-length part n in
-    let E : ℕ = superblocksOf n in
+facts-right K F part n good small f =
+    let g = good-part K part n good in
+    let t : List ℕ = rowBits K part n in
+    let long : length t ≡ n = row-length K part n in
+    let E : ℕ = superblocksOf K n in
+    let sb : ℕ = superblockBytes K in
     let z : 0 + E ≡ E = omega arith in
-    let E-is : superblocksOf (length t) ≡ E = ap superblocksOf long in
-    let size : lengthAt part 0 ≡ length t = sym (good-length part n good) ∙ sym long in
-    let bits : drop (bitsStart n) part ≡ bytesOf (cell t) (512 * E) =
-    bytes-drop part (bitsStart n) (512 * E) (cell t) small (g .1) (λ p l. padded-bits part n (f .padding) p (omega arith)) in
+    let y : headBytes ≡ headBytes + K .entryBytes * 0 = omega (arith, mul-zero (K .entryBytes)) in
+    let size : lengthAt part 0 ≡ length t = sym (good-length K part n good) ∙ sym long in
+    let bits : drop (bitsStart K n) part ≡ bytesOf (cell t) (sb * E) =
+    bytes-drop part (bitsStart K n) (sb * E) (cell t) small (g .1) (λ p l. padded-bits K part n (f .padding) p (omega (arith, bytes-all K F E))) in
+    let padded : drop (headBytes + entriesBytes K n) part ≡ zeros (padBytes K n) ++ bytesOf (cell t) (sb * E) =
+    zeros-drop part (headBytes + entriesBytes K n) (padBytes K n) (omega (arith, g .1, pad-ends K n)) (f .pad)
+    ∙ ap (λ (l : List ℕ). zeros (padBytes K n) ++ l) (ap (λ (x : ℕ). drop x part) (pad-ends K n) ∙ bits) in
+    let entries : drop headBytes part ≡ entriesFrom K (cell t) 0 E ++ (zeros (padBytes K n) ++ bytesOf (cell t) (sb * E)) =
+    ap (λ (x : ℕ). drop x part) y
+    ∙ entries-drop K part (cell t) 0 E small (subst (λ (x : ℕ). headBytes + K .entryBytes * x ≤ length part) (sym z) (omega (arith, g .1, pad-ends K n)))
+    (λ i l. f .entries i (subst (λ (x : ℕ). i < x) z l))
+    ∙ ap (λ (l : List ℕ). entriesFrom K (cell t) 0 E ++ l) (ap (λ (x : ℕ). drop (headBytes + K .entryBytes * x) part) z ∙ padded) in
     drop-num part 0 4 (num part 0 4) small (omega (arith, g .0)) refl
     ∙ ap (λ (l : List ℕ). le 4 (num part 0 4) ++ l)
     (drop-num part 4 4 (num part 4 4) small (omega (arith, g .0)) refl
@@ -107,28 +142,28 @@ facts-right part n good small f =
     ∙ ap (λ (l : List ℕ). le 4 (length t) ++ l)
     (drop-num part 12 4 (rank t 1 (length t)) small (omega (arith, g .0)) (f .total)
     ∙ ap (λ (l : List ℕ). le 4 (rank t 1 (length t)) ++ l)
-    (entries-drop part (cell t) 0 E small (omega (arith, g .1)) (λ i l. f .entries i (omega arith))
-    ∙ ap (λ (l : List ℕ). entriesFrom (cell t) 0 E ++ l) (ap (λ (x : ℕ). drop (16 + 16 * x) part) z ∙ bits)
-    ∙ ap (λ (x : ℕ). entriesFrom (cell t) 0 x ++ bytesOf (cell t) (512 * x)) (sym E-is)))))
+    (entries
+    ∙ ap (λ (m : ℕ). entriesFrom K (cell t) 0 (superblocksOf K m) ++ (zeros (padBytes K m) ++ bytesOf (cell t) (sb * superblocksOf K m))) (sym long)))))
 
 -- ---- the test of a right row
 -- it is true where the row is right, and only there
-pub right-test : (part : List ℕ) (n : ℕ) → Right part n → rightPart part n ≡ true
-right-test part n e = sym (ap (same part) e) ∙ same-refl part
+pub right-test : (K : Kind) (part : List ℕ) (n : ℕ) → Right K part n → rightPart K part n ≡ true
+right-test K part n e = sym (ap (same part) e) ∙ same-refl part
 
-pub test-right : (part : List ℕ) (n : ℕ) → rightPart part n ≡ true → Right part n
-test-right part n h = same-eq part _ h
+pub test-right : (K : Kind) (part : List ℕ) (n : ℕ) → rightPart K part n ≡ true → Right K part n
+test-right K part n h = same-eq part _ h
 
 -- of a part that is one record of length n
-module _ (part : List ℕ) (n : ℕ) (good : goodPart part n ≡ true) (small : (i : ℕ) → getD part i 0 < 256) where
+module _ (K : Kind) (F : KindFits K) {told : ℕ → ℕ → ℕ} (T : EntryTells K told) (part : List ℕ) (n : ℕ) (good : goodPart K part n ≡ true)
+    (small : (i : ℕ) → getD part i 0 < 256) where
   -- a flag that tells the facts is the test
-  pub tells-right : (t : Bool) → (t ≡ true → RightFacts part n) → (RightFacts part n → t ≡ true) → t ≡ rightPart part n
+  pub tells-right : (t : Bool) → (t ≡ true → RightFacts K part n) → (RightFacts K part n → t ≡ true) → t ≡ rightPart K part n
   tells-right t p q =
-      decides t (rightPart part n) p q (λ e. right-facts part n (good-part part n good .2) (test-right part n e))
-      (λ f. right-test part n (facts-right part n good small f))
+      decides t (rightPart K part n) p q (λ e. right-facts K F T part n (good-part K part n good .2) (test-right K part n e))
+      (λ f. right-test K part n (facts-right K F part n good small f))
 
   -- one fact that fails
-  pub no-right : (RightFacts part n → ⊥) → false ≡ rightPart part n
+  pub no-right : (RightFacts K part n → ⊥) → false ≡ rightPart K part n
   no-right h = tells-right false (λ e. absurd (false≢true e)) (λ f. absurd (h f))
 
 -- ---- the inspection of a row
@@ -173,89 +208,92 @@ block-more s block at j sum q bits before its =
     (λ p l. bits p l ∙ bits-from s at (at + 64 * j) (64 * j) (512 * j) p refl (omega arith)) (le-refl 512))
     ∙ ap (ones (bitFrom s at)) e
 
--- the two halves of a number of 16 bytes are those of v exactly where it is v
-module _ (s : List ℕ) (at low high u w v : ℕ) (first : u ≡ num s at 8) (second : w ≡ num s (at + 8) 8) (is : HalvesOf v low high) where
-  pub halves-same : u ≡ low → w ≡ high → num s at 16 ≡ v
-  halves-same a b = sym (num-halves s at u w first second) ∙ ap₂ (λ (x y : ℕ). x + 2 ^ 64 * y) a b ∙ is .whole
-
-  pub same-halves : u < 2 ^ 64 → num s at 16 ≡ v → (u ≡ low) × (w ≡ high)
-  same-halves a e = go u w low high a (is .small) (num-halves s at u w first second ∙ e ∙ sym (is .whole))
-    where
-      go : (x y i j : ℕ) → x < 2 ^ 64 → i < 2 ^ 64 → x + 2 ^ 64 * y ≡ i + 2 ^ 64 * j → (x ≡ i) × (y ≡ j)
-      go x y i j l h k = (omega arith, omega arith)
-
--- the padding is zero, the entries before superblock e are right, and `sum` is the ones before it
-pub record SuperblocksRead (part : List ℕ) (n e sum : ℕ) : Type 0 where
-  pub within : e ≤ superblocksOf n
-  pub padding : PaddingZero part n
-  pub entries : (i : ℕ) → i < e → num part (headBytes + entryBytes * i) entryBytes ≡ entryOf (cell (rowBits part n)) i
-  pub count : sum ≡ ones (cell (rowBits part n)) (superblockBits * e)
+-- pad and padding are zero, the entries before superblock e are right, and `sum` is the ones before it
+pub record SuperblocksRead (K : Kind) (part : List ℕ) (n e sum : ℕ) : Type 0 where
+  pub within : e ≤ superblocksOf K n
+  pub pad : PadZero K part n
+  pub padding : PaddingZero K part n
+  pub entries : (i : ℕ) → i < e → entryNumber K part i ≡ entryOf K (cell (rowBits K part n)) i
+  pub count : sum ≡ ones (cell (rowBits K part n)) (K .superblockBits * e)
 
 -- no entry is inspected yet
-pub read-none : (part : List ℕ) (n : ℕ) → PaddingZero part n → SuperblocksRead part n 0 0
-read-none part n zeros =
-    record { within = omega arith; padding = zeros; entries = (λ i l. absurd (omega arith)); count = sym (sum-zero (cell (rowBits part n))) }
+pub read-none : (K : Kind) (part : List ℕ) (n : ℕ) → PadZero K part n → PaddingZero K part n → SuperblocksRead K part n 0 0
+read-none K part n padded zeros =
+    record {
+      within = omega arith;
+      pad = padded;
+      padding = zeros;
+      entries = (λ i l. absurd (omega arith));
+      count = sym (sum-zero (cell (rowBits K part n))) ∙ ap (ones (cell (rowBits K part n))) (sym (mul-zero (K .superblockBits)));
+    }
 
 -- the same, and the ones of superblock e up to the end of each of its blocks are counted
-pub record SuperblockCounted (part : List ℕ) (n e sum : ℕ) (counts : List ℕ) : Type 0 where
-  pub read : SuperblocksRead part n e sum
-  pub inside : e < superblocksOf n
-  pub counted : BlockCounts (superblockCells (rowBits part n) e) counts
+pub record SuperblockCounted (K : Kind) (part : List ℕ) (n e sum : ℕ) (counts : List ℕ) : Type 0 where
+  pub read : SuperblocksRead K part n e sum
+  pub inside : e < superblocksOf K n
+  pub counted : BlockCounts K (superblockCells K (rowBits K part n) e) counts
 
 -- those of the part's bits from its place on are those of the row
-pub read-counted : (part : List ℕ) (n e sum : ℕ) (counts : List ℕ) (at : ℕ) → SuperblocksRead part n e sum → e < superblocksOf n → at ≡ bitsStart n + 512 * e
-    → BlockCounts (bitFrom part at) counts → SuperblockCounted part n e sum counts
-read-counted part n e sum counts at x inside there c =
+pub read-counted : (K : Kind) → KindFits K → (part : List ℕ) (n e sum : ℕ) (counts : List ℕ) (at : ℕ) → SuperblocksRead K part n e sum → e < superblocksOf K n
+    → at ≡ bitsStart K n + superblockBytes K * e → BlockCounts K (bitFrom part at) counts → SuperblockCounted K part n e sum counts
+read-counted K F part n e sum counts at x inside there c =
     record {
       read = x;
       inside = inside;
       counted =
-          counts-ext (bitFrom part at) (superblockCells (rowBits part n) e) counts c
-          (λ p q. bits-from part (bitsStart n) at (512 * e) (4096 * e) p there (omega arith) ∙ padded-bits part n (x .padding) (4096 * e + p) (omega arith));
+          counts-ext K F (bitFrom part at) (superblockCells K (rowBits K part n) e) counts c
+          (λ p q. bits-from part (bitsStart K n) at (superblockBytes K * e) (K .superblockBits * e) p there (bytes-all K F e)
+          ∙ padded-bits K part n (x .padding) (K .superblockBits * e + p)
+          (omega (arith, mul-le-mul-left (K .superblockBits) inside, mul-suc (K .superblockBits) e)));
     }
 
-module _ (part : List ℕ) (n e sum : ℕ) (counts : List ℕ) (x : SuperblockCounted part n e sum counts) where
+module _ (K : Kind) (F : KindFits K) (part : List ℕ) (n e sum : ℕ) (counts : List ℕ) (x : SuperblockCounted K part n e sum counts) where
   -- the row's bits
   abbrev f : ℕ → ℕ
-  f = cell (rowBits part n)
+  f = cell (rowBits K part n)
 
-  -- the counts fit an entry
-  pub read-fit : sum < 2 ^ 44 → EntryFits sum counts
-  read-fit l = counts-fit (superblockCells (rowBits part n) e) counts sum (x .counted) (λ p. row-le part n (4096 * e + p)) l
+  -- the test of the entry that stands there against the one of the superblock
+  module _ (t : Bool) (v : ℕ) (made : v ≡ K .entry (superblockCells K (rowBits K part n) e) sum) (tested : t ≡ eqb (entryNumber K part e) v) where
+    own-entry : v ≡ entryOf K f e
+    own-entry = made ∙ entry-placed K f e sum (x .read .count)
 
-  -- the entry that they make
-  own-entry : entryFrom sum counts ≡ entryOf f e
-  own-entry = entry-made (superblockCells (rowBits part n) e) counts sum (x .counted) ∙ entry-placed f e sum (x .read .count)
-
-  -- the test of the entry that stands there
-  module _ (t : Bool) (tested : t ≡ eqb (num part (16 + 16 * e) 16) (entryFrom sum counts)) where
     -- it is right
-    pub read-more : not t ≡ false → SuperblocksRead part n (e + 1) (sum + getD counts 7 0)
-    read-more h =
-        let i : 4096 * e + 4096 ≡ 4096 * (e + 1) = omega arith in
-        let is : num part (16 + 16 * e) 16 ≡ entryOf f e = eqb-true _ _ (sym tested ∙ not-false t h) ∙ own-entry in
+    pub read-more : (last : ℕ) → last + 1 ≡ superblockBlocks K → not t ≡ false → SuperblocksRead K part n (e + 1) (sum + getD counts last 0)
+    read-more last all h =
+        let bb : ℕ = K .superblockBits in
+        let i : bb * e + bb ≡ bb * (e + 1) = sym (mul-add bb e 1 ∙ ap (λ (k : ℕ). bb * e + k) (mul-one bb)) in
+        let is : entryNumber K part e ≡ entryOf K f e = eqb-true _ _ (sym tested ∙ not-false t h) ∙ own-entry in
         record {
           within = omega (arith, x .inside);
+          pad = x .read .pad;
           padding = x .read .padding;
           entries = λ j l. ⊎-elim (x .read .entries j)
-              (λ q. let s : e ≡ j = omega arith in subst (λ (k : ℕ). num part (16 + 16 * k) 16 ≡ entryOf f k) s is) (lt-or j e);
-          count = omega (arith, x .read .count, x .counted .ends 7 (lit< tt), sum-split f (4096 * e) 4096, ap (ones f) i);
+              (λ q. let s : e ≡ j = omega arith in subst (λ (k : ℕ). entryNumber K part k ≡ entryOf K f k) s is) (lt-or j e);
+          count = omega (
+            arith,
+            x .read .count,
+            counts-all K F (superblockCells K (rowBits K part n) e) counts (x .counted) last all,
+            sum-split f (bb * e) bb,
+            ap (ones f) i,
+          );
         }
 
     -- it is not: no right row
-    pub read-wrong : not t ≡ true → RightFacts part n → ⊥
+    pub read-wrong : not t ≡ true → RightFacts K part n → ⊥
     read-wrong h r = eqb-false _ _ (sym tested ∙ not-true t h) (r .entries e (x .inside) ∙ sym own-entry)
 
 -- at most as many ones as bits
-pub read-le : (part : List ℕ) (n e sum : ℕ) → SuperblocksRead part n e sum → sum ≤ 4096 * e
-read-le part n e sum x = omega (arith, x .count, ones-le (cell (rowBits part n)) (4096 * e) (row-le part n))
+pub read-le : (K : Kind) (part : List ℕ) (n e sum : ℕ) → SuperblocksRead K part n e sum → sum ≤ K .superblockBits * e
+read-le K part n e sum x = omega (arith, x .count, ones-le (cell (rowBits K part n)) (K .superblockBits * e) (row-le K part n))
 
 -- all superblocks are inspected: the number of ones is left
-pub read-done : (part : List ℕ) (n e sum total : ℕ) → goodPart part n ≡ true → ((i : ℕ) → getD part i 0 < 256) → SuperblocksRead part n e sum
-    → superblocksOf n ≤ e → total ≡ onesAt part 0 → eqb total sum ≡ rightPart part n
-read-done part n e sum total good small x all said =
-    let t : List ℕ = rowBits part n in
-    let is : sum ≡ rank t 1 (length t) = x .count ∙ ones-past t (4096 * e) (omega (arith, row-length part n)) ∙ sym (rank-all t (row-le part n)) in
-    tells-right part n good small (eqb total sum)
-    (λ h. record { total = sym said ∙ eqb-true total sum h ∙ is; entries = (λ i l. x .entries i (omega arith)); padding = x .padding })
+pub read-done : (K : Kind) → KindFits K → {told : ℕ → ℕ → ℕ} → EntryTells K told → (part : List ℕ) (n e sum total : ℕ) → goodPart K part n ≡ true
+    → ((i : ℕ) → getD part i 0 < 256) → SuperblocksRead K part n e sum → superblocksOf K n ≤ e → total ≡ onesAt part 0 → eqb total sum ≡ rightPart K part n
+read-done K F T part n e sum total good small x all said =
+    let t : List ℕ = rowBits K part n in
+    let most : n ≤ K .superblockBits * e = omega (arith, superblocks-cover K F n, mul-le-mul-left (K .superblockBits) all) in
+    let is : sum ≡ rank t 1 (length t) =
+    x .count ∙ ones-past t (K .superblockBits * e) (omega (arith, row-length K part n, most)) ∙ sym (rank-all t (row-le K part n)) in
+    tells-right K F T part n good small (eqb total sum)
+    (λ h. record { total = sym said ∙ eqb-true total sum h ∙ is; entries = (λ i l. x .entries i (omega arith)); pad = x .pad; padding = x .padding })
     (λ r. eq-eqb total sum (said ∙ r .total ∙ sym is))

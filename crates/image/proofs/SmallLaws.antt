@@ -2,7 +2,7 @@
 use mathlib.Core.Path.{_≡_, refl}
 use mathlib.Core.List.{List, [], _∷_, _++_}
 use mathlib.Core.Option.{Option, some, none}
-use Prim.Native.Nat.{ℕ, _+_, _/_, _%_, _^_, _≤_, _<_}
+use Prim.Native.Nat.{ℕ, _+_, _/_, _%_, _≤_, _<_}
 use native.Mathlib.Omega.{arith}
 use lib.ListN.{length, getD, drop}
 use borrow.Author.Tests.{leb-false, ltb-false}
@@ -17,8 +17,9 @@ use Rattle.words.proofs.CheckLaws.{passes, passed-both}
 use Rattle.words.proofs.SmallLaws.{small-unless}
 use Rattle.counters.proofs.SmallLaws.{small-promise, small-at-most, small-below}
 use Rattle.image.specs.Bytes.{bitFrom}
+use Rattle.image.specs.Kinds.{kind1}
 use Rattle.image.specs.Layout.{unitBytes, mostRow, bitsStart, sizeOf}
-use Rattle.image.specs.Chain.{headerOf, labelAt, chainOf, chainEnd}
+use Rattle.image.specs.Chain.{headerOf, kindOf, labelAt, chainOf, chainEnd}
 use Rattle.image.specs.Rows.{rowBits}
 use Rattle.image.specs.Calls.{isSome, recordsOf, ImageOutcome, imageOutcome, clearTable, clearOutcome, freezeTable, frozen, freezeOutcome, allRight, inspectLines, inspectTold, openTable, rowPart, rowLength, rowGetTold, RowRanked, RowSelected, recordSizeTold, rowLengthTold, rowLabelTold}
 use Rattle.image.proofs.ChainLaws.{chain-facts, chain-few, some-in, opened}
@@ -35,13 +36,13 @@ small-outcome (some n) s o h = tt
 -- clear
 pub small-clear : (s : List ℕ) → Small (clearOutcome s .told)
 small-clear s =
-    small-outcome (judge (clearTable (length s))) s (imageOutcome (value unitBytes) (headerOf 0 ++ drop unitBytes s)) (λ e. omega arith)
+    small-outcome (judge (clearTable (length s))) s (imageOutcome (value unitBytes) (headerOf kind1 0 ++ drop unitBytes s)) (λ e. omega arith)
 
 -- freeze: the record's unit is inside the image
 pub small-freeze : (h : Handle) (ws s : List ℕ) (label : ℕ) → Small (freezeOutcome h ws s label .told)
 small-freeze h ws s label =
     small-outcome (judge (freezeTable h (length ws) s label)) s
-    (imageOutcome (value (chainEnd s (recordsOf s) / unitBytes)) (frozen s label (stripOf ws (h .length)))) (λ e.
+    (imageOutcome (value (chainEnd (kindOf s) s (recordsOf s) / unitBytes)) (frozen s label (stripOf ws (h .length)))) (λ e.
     let f = freezing h (length ws) s label e .facts in
     omega (arith, f .ended .inside, f .header .most))
 
@@ -63,9 +64,9 @@ small-row-get s label i =
     let n : ℕ = rowLength s label in
     let part : List ℕ = rowPart s label in
     let ls : List Line = belowLine n i ∷ [] in
-    small-unless (judge (openTable s label ++ ls)) (value (cell (rowBits part n) i)) (λ e.
+    small-unless (judge (openTable s label ++ ls)) (value (cell (rowBits (kindOf s) part n) i)) (λ e.
     let l : i < n = leb-false _ _ (passes ls (passed-both (openTable s label) ls e .1) .0) in
-    omega (arith, getD-listOf (bitFrom part (bitsStart n)) n i l, bit-le (getD part (bitsStart n + i / 8) 0) (i % 8)))
+    omega (arith, getD-listOf (bitFrom part (bitsStart (kindOf s) n)) n i l, bit-le (getD part (bitsStart (kindOf s) n + i / 8) 0) (i % 8)))
 
 -- count
 pub small-row-ranked : (s : List ℕ) (label v i : ℕ) (o : Told) → RowRanked s label v i o → Small o
@@ -87,7 +88,7 @@ small-row-selected s label v k o p =
 -- the bytes of a record
 pub small-record-size : (n : ℕ) → Small (recordSizeTold n)
 small-record-size n =
-    small-unless (judge (withinLine mostRow n ∷ [])) (value (sizeOf n)) (λ e.
+    small-unless (judge (withinLine mostRow n ∷ [])) (value (sizeOf kind1 n)) (λ e.
     let l : n ≤ mostRow = ltb-false _ _ (passes (withinLine mostRow n ∷ []) e .0) in
     omega arith)
 

@@ -14,7 +14,7 @@ use Rattle.words.specs.Words.{placeIn}
 use Rattle.image.specs.declared.chain.Scan.the-variants.{Unsound, Sound}
 use Rattle.image.specs.Bytes.{num}
 use Rattle.image.specs.Layout.{unitBytes, mostLabel}
-use Rattle.image.specs.Chain.{nextAt, labelAt, endAt, soundHeader, soundRecord, among, inFront, chainOf, placeOf, chainEnd, linkOf}
+use Rattle.image.specs.Chain.{kindOf, nextAt, labelAt, endAt, soundHeader, soundRecord, among, inFront, chainOf, placeOf, chainEnd, linkOf}
 use Rattle.image.specs.Calls.{recordsIn, recordsOf, recordWith, rowPlace}
 use Rattle.image.specs.Walk.{scanned, scanOf}
 use Rattle.image.proofs.ChainLaws.{no-confusion, header-sound, RecordFacts, record-facts, none-some, not-stopped, restFrom, rest-end, rest-unsound, rest-more, chain-rest, among-first, among-rest}
@@ -45,44 +45,46 @@ onto-some past (some bs) rs e = (bs, refl, cc)
 pub record Walked (s : List ℕ) (at : ℕ) (met past : List ℕ) : Type 0 where
   pub steps : ℕ
   pub enough : (at ≡ 0 → ⊥) → length s < at + steps
-  pub same : onto past (restFrom steps s at met) ≡ chainOf s
+  pub same : onto past (restFrom (kindOf s) steps s at met) ≡ chainOf s
 
 -- where it starts
 walked-none : (s : List ℕ) → soundHeader s ≡ true → Walked s (unitBytes * num s 0 4) [] []
 walked-none s h = record { steps = length s; enough = λ n. omega arith; same = onto-none _ ∙ sym (chain-rest s h) }
 
 -- it stops at a record that is not sound, or whose label was met
-walked-stops : {s : List ℕ} {at : ℕ} {met past : List ℕ} → Walked s at met past → (at ≡ 0 → ⊥) → (soundRecord s at && not (among (labelAt s at) met)) ≡ false
+walked-stops : {s : List ℕ} {at : ℕ} {met past : List ℕ} → Walked s at met past → (at ≡ 0 → ⊥)
+    → (soundRecord (kindOf s) s at && not (among (labelAt s at) met)) ≡ false
     → chainOf s ≡ none
-walked-stops {s} {at} {met} {past} w n h = sym (w .same) ∙ ap (onto past) (rest-unsound (w .steps) s at met n h)
+walked-stops {s} {at} {met} {past} w n h = sym (w .same) ∙ ap (onto past) (rest-unsound (kindOf s) (w .steps) s at met n h)
 
 -- a turn
-walked-more : {s : List ℕ} {at : ℕ} {met past : List ℕ} → Walked s at met past → (at ≡ 0 → ⊥) → soundRecord s at ≡ true → among (labelAt s at) met ≡ false
+walked-more : {s : List ℕ} {at : ℕ} {met past : List ℕ} → Walked s at met past → (at ≡ 0 → ⊥) → soundRecord (kindOf s) s at ≡ true
+    → among (labelAt s at) met ≡ false
     → Walked s (unitBytes * nextAt s at) (labelAt s at ∷ met) (past ++ (at ∷ []))
 walked-more {s} {at} {met} {past} w n h m = go (w .steps) refl
   where
     go : (steps : ℕ) → w .steps ≡ steps → Walked s (unitBytes * nextAt s at) (labelAt s at ∷ met) (past ++ (at ∷ []))
-    go zero q = absurd (omega (arith, w .enough n, record-facts s at h .room))
+    go zero q = absurd (omega (arith, w .enough n, record-facts (kindOf s) s at h .room))
     go (suc steps) q =
         record {
           steps = steps;
-          enough = λ z. omega (arith, w .enough n, record-facts s at h .ahead (λ y. z (omega arith)));
+          enough = λ z. omega (arith, w .enough n, record-facts (kindOf s) s at h .ahead (λ y. z (omega arith)));
           same =
-              onto-more past at (restFrom steps s (unitBytes * nextAt s at) (labelAt s at ∷ met))
-              ∙ ap (onto past) (sym (rest-more steps s at met n h m) ∙ ap (λ (k : ℕ). restFrom k s at met) (sym q))
+              onto-more past at (restFrom (kindOf s) steps s (unitBytes * nextAt s at) (labelAt s at ∷ met))
+              ∙ ap (onto past) (sym (rest-more (kindOf s) steps s at met n h m) ∙ ap (λ (k : ℕ). restFrom (kindOf s) k s at met) (sym q))
               ∙ w .same;
         }
 
 -- where it ends
 walked-done : {s : List ℕ} {at : ℕ} {met past : List ℕ} → Walked s at met past → at ≡ 0 → chainOf s ≡ some past
-walked-done {s} {at} {met} {past} w z = sym (w .same) ∙ ap (onto past) (rest-end (w .steps) s at met z) ∙ ap some (append-nil past)
+walked-done {s} {at} {met} {past} w z = sym (w .same) ∙ ap (onto past) (rest-end (kindOf s) (w .steps) s at met z) ∙ ap some (append-nil past)
 
 -- what is left to walk
 unfoldable pub left : ℕ → ℕ → ℕ
 left n at = cond (eqb at 0) 0 (suc (n - at))
 
 -- a turn leaves less
-pub left-less : (s : List ℕ) (at : ℕ) → (at ≡ 0 → ⊥) → RecordFacts s at → left (length s) (unitBytes * nextAt s at) < left (length s) at
+pub left-less : (s : List ℕ) (at : ℕ) → (at ≡ 0 → ⊥) → RecordFacts (kindOf s) s at → left (length s) (unitBytes * nextAt s at) < left (length s) at
 unfolding left
 left-less s at n f = simp (ne-eqb at 0 n) (go (eqb (unitBytes * nextAt s at) 0) refl)
   where
@@ -103,20 +105,20 @@ walk-none s e = record { met = []; walked = walked-none s (header-sound s (chain
 
 -- where it has not ended it stands at a sound record, and goes on
 pub record Turn (s : List ℕ) (at : ℕ) (past : List ℕ) : Type 0 where
-  pub facts : RecordFacts s at
+  pub facts : RecordFacts (kindOf s) s at
   pub more : SoundWalk s (unitBytes * nextAt s at) (past ++ (at ∷ []))
   pub rest : List ℕ
   pub whole : past ++ (at ∷ rest) ≡ recordsOf s
 
 pub walk-turn : {s : List ℕ} {at : ℕ} {past : List ℕ} → SoundWalk s at past → (at ≡ 0 → ⊥) → Turn s at past
 walk-turn {s} {at} {past} w n =
-    let here = onto-some past (restFrom (w .walked .steps) s at (w .met)) (recordsOf s) (w .walked .same ∙ w .chain) in
-    let q = not-stopped (w .walked .steps) s at (w .met) (here .0) (here .1) n in
+    let here = onto-some past (restFrom (kindOf s) (w .walked .steps) s at (w .met)) (recordsOf s) (w .walked .same ∙ w .chain) in
+    let q = not-stopped (kindOf s) (w .walked .steps) s at (w .met) (here .0) (here .1) n in
     let more = walked-more (w .walked) n (q .0) (q .1) in
     let next : ℕ = unitBytes * nextAt s at in
-    let later = onto-some (past ++ (at ∷ [])) (restFrom (more .steps) s next (labelAt s at ∷ w .met)) (recordsOf s) (more .same ∙ w .chain) in
+    let later = onto-some (past ++ (at ∷ [])) (restFrom (kindOf s) (more .steps) s next (labelAt s at ∷ w .met)) (recordsOf s) (more .same ∙ w .chain) in
     record {
-      facts = record-facts s at (q .0);
+      facts = record-facts (kindOf s) s at (q .0);
       more = record { met = labelAt s at ∷ w .met; walked = more; chain = w .chain };
       rest = later .0;
       whole = sym (append-snoc past at (later .0)) ∙ later .2;
@@ -161,7 +163,7 @@ pub record Scanned (s : List ℕ) (label at : ℕ) (flags : List Bool) (link end
   pub marks : (k : ℕ) → k < mostLabel + 1 → getD flags k false ≡ among k met
   pub absent : (l : ℕ) → among l met ≡ false → placeOf s l past ≡ none
   pub linked : link ≡ linkOf past
-  pub ended : end ≡ chainEnd s past
+  pub ended : end ≡ chainEnd (kindOf s) s past
   pub placed : found ≡ placeIn 0 (placeOf s label past)
 
 -- where it starts
@@ -198,23 +200,23 @@ placed-more s label at past found e h = go (eqb (labelAt s at) label) refl ∙ a
 -- a scan that stands at byte `at`, not at the end
 module _ {s : List ℕ} {label at : ℕ} {flags : List Bool} {link end found : ℕ} (w : Scanned s label at flags link end found) (n : at ≡ 0 → ⊥) where
   -- at a record that is not sound
-  pub scanned-unsound : soundRecord s at ≡ false → Unsound ≡ scanOf s label
+  pub scanned-unsound : soundRecord (kindOf s) s at ≡ false → Unsound ≡ scanOf s label
   scanned-unsound h = scan-unsound s label (walked-stops (w .walked) n (simp h))
 
   -- at a sound one whose label, as the code has read it, has a flag or none
-  module _ (h : soundRecord s at ≡ true) (here : ℕ) (q : here ≡ labelAt s at) where
+  module _ (h : soundRecord (kindOf s) s at ≡ true) (here : ℕ) (q : here ≡ labelAt s at) where
     -- whether the label was met
     met-is : getD flags here false ≡ among (labelAt s at) (w .met)
-    met-is = ap (λ (k : ℕ). getD flags k false) q ∙ w .marks (labelAt s at) (omega (arith, record-facts s at h .high))
+    met-is = ap (λ (k : ℕ). getD flags k false) q ∙ w .marks (labelAt s at) (omega (arith, record-facts (kindOf s) s at h .high))
 
     pub scanned-again : getD flags here false ≡ true → Unsound ≡ scanOf s label
     scanned-again m = let i = sym met-is ∙ m in scan-unsound s label (walked-stops (w .walked) n (simp (h, i)))
 
     -- a turn
-    pub scanned-more : (next last spot : ℕ) → next ≡ unitBytes * nextAt s at → last ≡ endAt s at → getD flags here false ≡ false
+    pub scanned-more : (next last spot : ℕ) → next ≡ unitBytes * nextAt s at → last ≡ endAt (kindOf s) s at → getD flags here false ≡ false
         → spot ≡ cond (eqb here label) at found → Scanned s label next (set flags here true) at last spot
     scanned-more next last spot p e m f =
-        let i : labelAt s at < mostLabel + 1 = omega (arith, record-facts s at h .high) in
+        let i : labelAt s at < mostLabel + 1 = omega (arith, record-facts (kindOf s) s at h .high) in
         let u : among (labelAt s at) (w .met) ≡ false = sym met-is ∙ m in
         rw (p, q)
         (record {
@@ -225,7 +227,7 @@ module _ {s : List ℕ} {label at : ℕ} {flags : List Bool} {link end found : �
           marks = mark-more flags (w .met) (labelAt s at) (w .flagged) i (w .marks);
           absent = absent-more s (w .past) (w .met) at (w .absent);
           linked = sym (link-last (w .past) at);
-          ended = e ∙ sym (end-last s (w .past) at);
+          ended = e ∙ sym (end-last (kindOf s) s (w .past) at);
           placed =
               f
               ∙ ap (λ (l : ℕ). cond (eqb l label) at found) q
@@ -241,7 +243,7 @@ scanned-done {s} {label} w z = simp (walked-done (w .walked) z, w .linked, w .en
 pub record ScanFacts (s : List ℕ) (label link end found : ℕ) : Type 0 where
   pub chain : chainOf s ≡ some (recordsOf s)
   pub linked : link ≡ linkOf (recordsOf s)
-  pub ended : end ≡ chainEnd s (recordsOf s)
+  pub ended : end ≡ chainEnd (kindOf s) s (recordsOf s)
   pub placed : found ≡ rowPlace s label
 
 -- a scan that is told sound

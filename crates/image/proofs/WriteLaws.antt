@@ -3,13 +3,12 @@ use mathlib.Core.Path.{_≡_, refl, sym, ap, ap₂, _∙_, subst}
 use mathlib.Core.Logic.{⊎-elim}
 use mathlib.Core.List.{List, [], _∷_, _++_, append-assoc, append-nil}
 use Prim.Native.Nat.{ℕ, zero, suc, min, _+_, _-_, _*_, _/_, _%_, _^_, _≤_, _<_}
-use native.Mathlib.Nat.{one-mul, mod-lt, mod-eq-of-lt, zero-lt-suc, pow-zero, pow-succ', mul-suc, mul-le-mul-left}
+use native.Mathlib.Nat.{one-mul, mod-lt, mod-eq-of-lt, zero-lt-suc, pow-zero, pow-succ', mul-zero, mul-one, mul-suc, mul-add, mul-le-mul-left}
 use native.Mathlib.Omega.{arith}
-use lib.Arith as A
 use lib.Bits.{bitAnd, and-mask}
 use lib.Dec.{lit<}
 use lib.Pow.{pow-pos}
-use lib.ListN.{length, set, drop, getD, length-append, List·getD-append, List·getD-eq-default}
+use lib.ListN.{length, set, drop, getD, length-append, length-replicate, getD-replicate, List·getD-append, List·getD-eq-default}
 use lib.Seq.{sets, length-sets, ext-getD, drop-drop, drop-append-seam, getD-drop}
 use Rattle.words.specs.Bits.{bit, bitAt, ones, digits, listOf}
 use Rattle.words.specs.Strip.{cell, stripOf, rank, rankOf}
@@ -21,12 +20,14 @@ use Rattle.words.proofs.SearchLaws.{rank-ones}
 use Rattle.words.proofs.StripLaws.{strip-cell}
 use Rattle.image.specs.declared.write.Target.{Target}
 use Rattle.image.specs.Bytes.{num, le, bitFrom}
-use Rattle.image.specs.Layout.{mostRow, superblocksOf, bitsStart, sizeOf, superblockEntry, entryOf, entriesFrom, bytesOf, recordOf, kind}
+use Rattle.image.specs.Kinds.{Kind}
+use Rattle.image.specs.Layout.{unitBytes, headBytes, mostRow, superblockBlocks, superblockBytes, superblocksOf, entriesBytes, padBytes, bitsStart, sizeOf, entryOf, entriesFrom, zeros, bytesOf, recordOf}
 use Rattle.image.specs.Rows.{rowBits, Right}
 use Rattle.image.specs.Chain.{headerOf}
-use Rattle.image.specs.Writing.{entryFrom, HalvesOf, wordCells, BitsPut, CountedPut, SuperblockPut, RowPut}
-use Rattle.image.proofs.EntryLaws.{block-ones-lt, entry-made, entry-placed, Counting, counting-none, counting-more, counting-done}
-use Rattle.image.proofs.PutLaws.{length-le, le-small, num-of, sets-join, sets-comm, sets-front, put-join}
+use Rattle.image.specs.Writing.{wordCells, BitsPut, CountedPut, SuperblockPut, RowPut}
+use Rattle.image.proofs.KindLaws.{KindFits, EntryTells, bytes-all, superblocks-cover, superblock-begins, pad-ends}
+use Rattle.image.proofs.CountLaws.{counts-all, Counting, counting-none, counting-more, counting-done}
+use Rattle.image.proofs.PutLaws.{length-le, le-small, num-of, sets-join, sets-comm, sets-front}
 
 -- ---- lists by their elements
 -- equal elements, equal lists
@@ -130,45 +131,66 @@ le-bytes (suc n) x f h =
     ∙ listOf-ext (λ b. digits 2 (λ j. f (8 + (8 * b + j))) 8) (λ b. digits 2 (λ j. f (8 * suc b + j)) 8) n
     (λ b l. digits-ext 2 (λ j. f (8 + (8 * b + j))) (λ j. f (8 * suc b + j)) 8 (λ j k. ap f (omega arith))))
 
+-- bytes beside bytes
+append-small : (xs ys : List ℕ) → ((i : ℕ) → getD xs i 0 < 256) → ((i : ℕ) → getD ys i 0 < 256) → (i : ℕ) → getD (xs ++ ys) i 0 < 256
+append-small [] ys hx hy i = hy i
+append-small (x ∷ xs) ys hx hy zero = hx 0
+append-small (x ∷ xs) ys hx hy (suc i) = append-small xs ys (λ j. hx (suc j)) hy i
+
+-- zeros are bytes
+zeros-small : (n i : ℕ) → getD (zeros n) i 0 < 256
+zeros-small zero i = lit< tt
+zeros-small (suc n) zero = lit< tt
+zeros-small (suc n) (suc i) = zeros-small n i
+
 -- ---- entries
--- their bytes
-pub length-entries : (f : ℕ → ℕ) (e n : ℕ) → length (entriesFrom f e n) ≡ 16 * n
-unfolding entriesFrom
-length-entries f e zero = omega arith
-length-entries f e (suc n) =
-    length-append (le 16 (entryOf f e)) (entriesFrom f (suc e) n) ∙ omega (arith, length-le 16 (entryOf f e), length-entries f (suc e) n)
+module _ (K : Kind) (f : ℕ → ℕ) where
+  -- the entry of superblock e, with the row's ones before it, is entry e of the row
+  pub entry-placed : (e sum : ℕ) → sum ≡ ones f (K .superblockBits * e) → K .entry (λ p. f (K .superblockBits * e + p)) sum ≡ entryOf K f e
+  unfolding entryOf
+  entry-placed e sum h = ap (K .entry (λ p. f (K .superblockBits * e + p))) h
 
--- the first m entries, then those after them
-pub entries-append : (f : ℕ → ℕ) (e m n : ℕ) → entriesFrom f e (m + n) ≡ entriesFrom f e m ++ entriesFrom f (e + m) n
-unfolding entriesFrom
-entries-append f e zero n =
-    let i : zero + n ≡ n = omega arith in
-    let j : e ≡ e + zero = omega arith in
-    ap (entriesFrom f e) i ∙ ap (λ (k : ℕ). entriesFrom f k n) j
-entries-append f e (suc m) n =
-    let i : suc m + n ≡ suc (m + n) = omega arith in
-    let j : suc e + m ≡ e + suc m = omega arith in
-    ap (entriesFrom f e) i
-    ∙ ap (λ (l : List ℕ). le 16 (entryOf f e) ++ l) (entries-append f (suc e) m n ∙ ap (λ (k : ℕ). entriesFrom f (suc e) m ++ entriesFrom f k n) j)
-    ∙ sym (append-assoc (le 16 (entryOf f e)) (entriesFrom f (suc e) m) (entriesFrom f (e + suc m) n))
+  -- their bytes
+  pub length-entries : (e n : ℕ) → length (entriesFrom K f e n) ≡ K .entryBytes * n
+  unfolding entriesFrom
+  length-entries e zero = sym (mul-zero (K .entryBytes))
+  length-entries e (suc n) =
+      length-append (le (K .entryBytes) (entryOf K f e)) (entriesFrom K f (suc e) n)
+      ∙ omega (arith, length-le (K .entryBytes) (entryOf K f e), length-entries (suc e) n, mul-suc (K .entryBytes) n)
 
--- one entry
-entries-one : (f : ℕ → ℕ) (e : ℕ) → entriesFrom f e 1 ≡ le 16 (entryOf f e)
-unfolding entriesFrom
-entries-one f e = append-nil (le 16 (entryOf f e))
+  -- the first m entries, then those after them
+  pub entries-append : (e m n : ℕ) → entriesFrom K f e (m + n) ≡ entriesFrom K f e m ++ entriesFrom K f (e + m) n
+  unfolding entriesFrom
+  entries-append e zero n =
+      let i : zero + n ≡ n = omega arith in
+      let j : e ≡ e + zero = omega arith in
+      ap (entriesFrom K f e) i ∙ ap (λ (k : ℕ). entriesFrom K f k n) j
+  entries-append e (suc m) n =
+      let i : suc m + n ≡ suc (m + n) = omega arith in
+      let j : suc e + m ≡ e + suc m = omega arith in
+      let own : List ℕ = le (K .entryBytes) (entryOf K f e) in
+      ap (entriesFrom K f e) i
+      ∙ ap (λ (l : List ℕ). own ++ l) (entries-append (suc e) m n ∙ ap (λ (k : ℕ). entriesFrom K f (suc e) m ++ entriesFrom K f k n) j)
+      ∙ sym (append-assoc own (entriesFrom K f (suc e) m) (entriesFrom K f (e + suc m) n))
 
--- an entry fits its 16 bytes
-pub entry-lt : (f : ℕ → ℕ) (e : ℕ) → ((p : ℕ) → f p ≤ 1) → 4096 * e < 2 ^ 44 → entryOf f e < 2 ^ 128
-unfolding entryOf
-entry-lt f e b h =
-    let g : ℕ → ℕ = λ j. ones (λ p. f (4096 * e + p)) (512 * (j + 1)) in
-    go (ones f (4096 * e)) (digits (2 ^ 12) g 7) (omega (arith, ones-le f (4096 * e) b))
-    (digits-lt (2 ^ 12) g 7 (λ i l. block-ones-lt (λ p. f (4096 * e + p)) i (λ p. b (4096 * e + p)) l))
-  where
-    go : (a d : ℕ) → a < 2 ^ 44 → d < 2 ^ 84 → a + 2 ^ 44 * d < 2 ^ 128
-    go a d h k =
-        let e : d * 2 ^ 44 + a ≡ a + 2 ^ 44 * d = omega arith in
-        subst (λ (x : ℕ). x < 2 ^ 128) e (A.digits-lt {q = d} {m = 2 ^ 84} {r = a} {c = 2 ^ 44} k h)
+  -- one entry
+  entries-one : (e : ℕ) → entriesFrom K f e 1 ≡ le (K .entryBytes) (entryOf K f e)
+  unfolding entriesFrom
+  entries-one e = append-nil (le (K .entryBytes) (entryOf K f e))
+
+  -- entries are bytes
+  entries-small : (e n i : ℕ) → getD (entriesFrom K f e n) i 0 < 256
+  unfolding entriesFrom
+  entries-small e zero i = lit< tt
+  entries-small e (suc n) i =
+      append-small (le (K .entryBytes) (entryOf K f e)) (entriesFrom K f (suc e) n) (le-small (K .entryBytes) (entryOf K f e)) (entries-small (suc e) n) i
+
+  -- an entry fits its bytes
+  entry-fits : {told : ℕ → ℕ → ℕ} → EntryTells K told → (e : ℕ) → ((p : ℕ) → f p ≤ 1) → K .superblockBits * e ≤ mostRow → entryOf K f e < 256 ^ K .entryBytes
+  unfolding entryOf
+  entry-fits T e b h =
+      T .fits (λ p. f (K .superblockBits * e + p)) (ones f (K .superblockBits * e)) (λ p. b (K .superblockBits * e + p))
+      (omega (arith, ones-le f (K .superblockBits * e) b))
 
 -- ---- the pieces of a list of bytes, from the front
 -- what follows a piece
@@ -189,20 +211,22 @@ pub piece-small : (s ys : List ℕ) (at n v : ℕ) → v < 256 ^ n → drop at s
 piece-small s ys at n v h e = piece-num s ys at n v e ∙ mod-eq-of-lt h
 
 -- an entry among entries
-pub piece-entry : (s ys : List ℕ) (at : ℕ) (f : ℕ → ℕ) (n e : ℕ) → drop at s ≡ entriesFrom f 0 n ++ ys → e < n → num s (at + 16 * e) 16 ≡ entryOf f e % 2 ^ 128
-piece-entry s ys at f n e h l =
+pub piece-entry : (K : Kind) (s ys : List ℕ) (at : ℕ) (f : ℕ → ℕ) (n e : ℕ) → drop at s ≡ entriesFrom K f 0 n ++ ys → e < n
+    → num s (at + K .entryBytes * e) (K .entryBytes) ≡ entryOf K f e % 256 ^ K .entryBytes
+piece-entry K s ys at f n e h l =
     let m : ℕ = n - (e + 1) in
     let i : e + (1 + m) ≡ n = omega arith in
     let z : 0 + e ≡ e = omega arith in
-    let xs : List ℕ = entriesFrom f 0 e in
-    let y : List ℕ = le 16 (entryOf f e) in
-    let zs : List ℕ = entriesFrom f (e + 1) m in
-    let tail : entriesFrom f (0 + e) (1 + m) ≡ y ++ zs =
-    ap (λ (k : ℕ). entriesFrom f k (1 + m)) z ∙ entries-append f e 1 m ∙ ap (λ (q : List ℕ). q ++ zs) (entries-one f e) in
-    let all : entriesFrom f 0 n ≡ xs ++ (y ++ zs) = ap (entriesFrom f 0) (sym i) ∙ entries-append f 0 e (1 + m) ∙ ap (λ (q : List ℕ). xs ++ q) tail in
+    let eb : ℕ = K .entryBytes in
+    let xs : List ℕ = entriesFrom K f 0 e in
+    let y : List ℕ = le eb (entryOf K f e) in
+    let zs : List ℕ = entriesFrom K f (e + 1) m in
+    let tail : entriesFrom K f (0 + e) (1 + m) ≡ y ++ zs =
+    ap (λ (k : ℕ). entriesFrom K f k (1 + m)) z ∙ entries-append K f e 1 m ∙ ap (λ (q : List ℕ). q ++ zs) (entries-one K f e) in
+    let all : entriesFrom K f 0 n ≡ xs ++ (y ++ zs) = ap (entriesFrom K f 0) (sym i) ∙ entries-append K f 0 e (1 + m) ∙ ap (λ (q : List ℕ). xs ++ q) tail in
     let d : drop at s ≡ xs ++ (y ++ (zs ++ ys)) = h ∙ ap (λ (q : List ℕ). q ++ ys) all ∙ simp append-assoc in
-    piece-num s (zs ++ ys) (at + 16 * e) 16 (entryOf f e)
-    (piece-after s xs (y ++ (zs ++ ys)) at (16 * e) (at + 16 * e) (length-entries f 0 e) d refl)
+    piece-num s (zs ++ ys) (at + eb * e) eb (entryOf K f e)
+    (piece-after s xs (y ++ (zs ++ ys)) at (eb * e) (at + eb * e) (length-entries K f 0 e) d refl)
 
 -- a bit among bytes of bits
 pub piece-bit : (s ys : List ℕ) (at : ℕ) (f : ℕ → ℕ) (n p : ℕ) → ((q : ℕ) → f q ≤ 1) → drop at s ≡ bytesOf f n ++ ys → p < 8 * n → bitFrom s at p ≡ f p
@@ -211,18 +235,6 @@ piece-bit s ys at f n p h e l =
     ap (λ (x : ℕ). bit x (p % 8))
     (piece-at s (bytesOf f n) ys at (p / 8) e (omega (arith, length-bytes f n)) ∙ ap (λ (k : ℕ). getD (bytesOf f n) k 0) z)
     ∙ bytes-bit f n p h l
-
--- bytes beside bytes
-append-small : (xs ys : List ℕ) → ((i : ℕ) → getD xs i 0 < 256) → ((i : ℕ) → getD ys i 0 < 256) → (i : ℕ) → getD (xs ++ ys) i 0 < 256
-append-small [] ys hx hy i = hy i
-append-small (x ∷ xs) ys hx hy zero = hx 0
-append-small (x ∷ xs) ys hx hy (suc i) = append-small xs ys (λ j. hx (suc j)) hy i
-
--- entries are bytes
-entries-small : (f : ℕ → ℕ) (e n i : ℕ) → getD (entriesFrom f e n) i 0 < 256
-unfolding entriesFrom
-entries-small f e zero i = lit< tt
-entries-small f e (suc n) i = append-small (le 16 (entryOf f e)) (entriesFrom f (suc e) n) (le-small 16 (entryOf f e)) (entries-small f (suc e) n) i
 
 -- ---- the ones of a strip
 -- the ones of a list of bits, counted past its end
@@ -241,111 +253,106 @@ rank-all t h =
     ap (rankOf (cell t) 1) e ∙ rank-ones (cell t) (length t) h
 
 -- ---- a record
-module _ (x l : ℕ) (t : List ℕ) where
-  -- it, its entries, its bits and its ones
+module _ (K : Kind) (x l : ℕ) (t : List ℕ) where
+  -- it, its entries, the zeros that pad them, its bits and its ones
   abbrev r : List ℕ
-  r = recordOf x l t
+  r = recordOf K x l t
 
   abbrev es : List ℕ
-  es = entriesFrom (cell t) 0 (superblocksOf (length t))
+  es = entriesFrom K (cell t) 0 (superblocksOf K (length t))
+
+  abbrev fs : List ℕ
+  fs = zeros (padBytes K (length t))
 
   abbrev bs : List ℕ
-  bs = bytesOf (cell t) (512 * superblocksOf (length t))
+  bs = bytesOf (cell t) (superblockBytes K * superblocksOf K (length t))
 
   abbrev total : ℕ
   total = rank t 1 (length t)
 
   -- what stands from a byte on
-  from-0 : drop 0 r ≡ le 4 x ++ (le 4 l ++ (le 4 (length t) ++ (le 4 total ++ (es ++ bs))))
+  from-0 : drop 0 r ≡ le 4 x ++ (le 4 l ++ (le 4 (length t) ++ (le 4 total ++ (es ++ (fs ++ bs)))))
   unfolding recordOf
   from-0 = refl
 
-  from-4 : drop 4 r ≡ le 4 l ++ (le 4 (length t) ++ (le 4 total ++ (es ++ bs)))
-  from-4 = piece-after r (le 4 x) (le 4 l ++ (le 4 (length t) ++ (le 4 total ++ (es ++ bs)))) 0 4 4 (length-le 4 x) from-0 refl
+  from-4 : drop 4 r ≡ le 4 l ++ (le 4 (length t) ++ (le 4 total ++ (es ++ (fs ++ bs))))
+  from-4 = piece-after r (le 4 x) (le 4 l ++ (le 4 (length t) ++ (le 4 total ++ (es ++ (fs ++ bs))))) 0 4 4 (length-le 4 x) from-0 refl
 
   -- with another next index in front
-  pub record-front : (y : ℕ) → recordOf y l t ≡ le 4 y ++ drop 4 r
+  pub record-front : (y : ℕ) → recordOf K y l t ≡ le 4 y ++ drop 4 r
   unfolding recordOf
   record-front y = ap (λ (z : List ℕ). le 4 y ++ z) (sym from-4)
 
-  from-8 : drop 8 r ≡ le 4 (length t) ++ (le 4 total ++ (es ++ bs))
-  from-8 = piece-after r (le 4 l) (le 4 (length t) ++ (le 4 total ++ (es ++ bs))) 4 4 8 (length-le 4 l) from-4 refl
+  from-8 : drop 8 r ≡ le 4 (length t) ++ (le 4 total ++ (es ++ (fs ++ bs)))
+  from-8 = piece-after r (le 4 l) (le 4 (length t) ++ (le 4 total ++ (es ++ (fs ++ bs)))) 4 4 8 (length-le 4 l) from-4 refl
 
-  from-12 : drop 12 r ≡ le 4 total ++ (es ++ bs)
-  from-12 = piece-after r (le 4 (length t)) (le 4 total ++ (es ++ bs)) 8 4 12 (length-le 4 (length t)) from-8 refl
+  from-12 : drop 12 r ≡ le 4 total ++ (es ++ (fs ++ bs))
+  from-12 = piece-after r (le 4 (length t)) (le 4 total ++ (es ++ (fs ++ bs))) 8 4 12 (length-le 4 (length t)) from-8 refl
 
-  from-16 : drop 16 r ≡ es ++ bs
-  from-16 = piece-after r (le 4 total) (es ++ bs) 12 4 16 (length-le 4 total) from-12 refl
+  from-entries : drop headBytes r ≡ es ++ (fs ++ bs)
+  from-entries = piece-after r (le 4 total) (es ++ (fs ++ bs)) 12 4 headBytes (length-le 4 total) from-12 refl
 
-  from-bits : drop (bitsStart (length t)) r ≡ bs ++ []
+  from-pad : drop (headBytes + entriesBytes K (length t)) r ≡ fs ++ bs
+  from-pad =
+      piece-after r es (fs ++ bs) headBytes (entriesBytes K (length t)) (headBytes + entriesBytes K (length t))
+      (length-entries K (cell t) 0 (superblocksOf K (length t))) from-entries refl
+
+  from-bits : drop (bitsStart K (length t)) r ≡ bs ++ []
   from-bits =
-      piece-after r es bs 16 (16 * superblocksOf (length t)) (bitsStart (length t)) (length-entries (cell t) 0 (superblocksOf (length t))) from-16 refl
+      piece-after r fs bs (headBytes + entriesBytes K (length t)) (padBytes K (length t)) (bitsStart K (length t))
+      (length-replicate {A = ℕ} (padBytes K (length t)) 0) from-pad (pad-ends K (length t))
       ∙ sym (append-nil bs)
 
   -- its size
-  pub record-length : length r ≡ sizeOf (length t)
+  pub record-length : length r ≡ sizeOf K (length t)
   unfolding recordOf
   record-length =
-      length-append (le 4 x) (le 4 l ++ (le 4 (length t) ++ (le 4 total ++ (es ++ bs))))
+      length-append (le 4 x) (le 4 l ++ (le 4 (length t) ++ (le 4 total ++ (es ++ (fs ++ bs)))))
       ∙ omega (
         arith,
         length-le 4 x,
-        length-append (le 4 l) (le 4 (length t) ++ (le 4 total ++ (es ++ bs))),
+        length-append (le 4 l) (le 4 (length t) ++ (le 4 total ++ (es ++ (fs ++ bs)))),
         length-le 4 l,
-        length-append (le 4 (length t)) (le 4 total ++ (es ++ bs)),
+        length-append (le 4 (length t)) (le 4 total ++ (es ++ (fs ++ bs))),
         length-le 4 (length t),
-        length-append (le 4 total) (es ++ bs),
+        length-append (le 4 total) (es ++ (fs ++ bs)),
         length-le 4 total,
-        length-append es bs,
-        length-entries (cell t) 0 (superblocksOf (length t)),
-        length-bytes (cell t) (512 * superblocksOf (length t)),
+        length-append es (fs ++ bs),
+        length-entries K (cell t) 0 (superblocksOf K (length t)),
+        length-append fs bs,
+        length-replicate {A = ℕ} (padBytes K (length t)) 0,
+        pad-ends K (length t),
+        length-bytes (cell t) (superblockBytes K * superblocksOf K (length t)),
       )
 
   -- its four numbers
   pub record-next : num r 0 4 ≡ x % 2 ^ 32
-  record-next = piece-num r (le 4 l ++ (le 4 (length t) ++ (le 4 total ++ (es ++ bs)))) 0 4 x from-0
+  record-next = piece-num r (le 4 l ++ (le 4 (length t) ++ (le 4 total ++ (es ++ (fs ++ bs))))) 0 4 x from-0
 
   pub record-label : num r 4 4 ≡ l % 2 ^ 32
-  record-label = piece-num r (le 4 (length t) ++ (le 4 total ++ (es ++ bs))) 4 4 l from-4
+  record-label = piece-num r (le 4 (length t) ++ (le 4 total ++ (es ++ (fs ++ bs)))) 4 4 l from-4
 
   pub record-size : num r 8 4 ≡ length t % 2 ^ 32
-  record-size = piece-num r (le 4 total ++ (es ++ bs)) 8 4 (length t) from-8
+  record-size = piece-num r (le 4 total ++ (es ++ (fs ++ bs))) 8 4 (length t) from-8
 
   pub record-ones : num r 12 4 ≡ rank t 1 (length t) % 2 ^ 32
-  record-ones = piece-num r (es ++ bs) 12 4 total from-12
+  record-ones = piece-num r (es ++ (fs ++ bs)) 12 4 total from-12
 
   -- the third, of a row that is not too long
   pub record-long : length t ≤ mostRow → num r 8 4 ≡ length t
   record-long h = record-size ∙ mod-eq-of-lt (omega arith)
+
+  -- the bytes that pad its entries
+  pub record-pad : (i : ℕ) → i < padBytes K (length t) → getD r (headBytes + entriesBytes K (length t) + i) 0 ≡ 0
+  record-pad i h =
+      piece-at r fs bs (headBytes + entriesBytes K (length t)) i from-pad (omega (arith, length-replicate {A = ℕ} (padBytes K (length t)) 0))
+      ∙ getD-replicate {A = ℕ} (padBytes K (length t)) i 0 0 h
 
   -- those of a list of bits
   module _ (bits : (p : ℕ) → cell t p ≤ 1) where
     -- the fourth, likewise
     pub record-total : length t ≤ mostRow → num r 12 4 ≡ rank t 1 (length t)
     record-total h = record-ones ∙ mod-eq-of-lt (omega (arith, rank-all t bits, ones-le (cell t) (length t) bits))
-
-    -- entry e
-    pub record-entry : (e : ℕ) → length t ≤ mostRow → e < superblocksOf (length t) → num r (16 + 16 * e) 16 ≡ entryOf (cell t) e
-    record-entry e h k =
-        piece-entry r bs 16 (cell t) (superblocksOf (length t)) e from-16 k ∙ mod-eq-of-lt (entry-lt (cell t) e bits (omega arith))
-
-    -- the bit at position p, padding too
-    pub record-bit : (p : ℕ) → p < 4096 * superblocksOf (length t) → bitFrom r (bitsStart (length t)) p ≡ cell t p
-    record-bit p h = piece-bit r [] (bitsStart (length t)) (cell t) (512 * superblocksOf (length t)) p bits from-bits (omega arith)
-
-    -- the row's bits are those written
-    pub record-bits : rowBits r (length t) ≡ t
-    record-bits =
-        ext-getD 0 (rowBits r (length t)) t (length-listOf (bitFrom r (bitsStart (length t))) (length t))
-        (λ p h.
-        let q : p < length t = omega (arith, length-listOf (bitFrom r (bitsStart (length t))) (length t)) in
-        getD-listOf (bitFrom r (bitsStart (length t))) (length t) p q ∙ record-bit p (omega arith))
-
-    -- a record that is written is right
-    pub record-right : x < 2 ^ 32 → l < 2 ^ 32 → Right r (length t)
-    record-right hx hl =
-        sym (ap₂ (λ (y z : ℕ). recordOf y z (rowBits r (length t))) (record-next ∙ mod-eq-of-lt hx) (record-label ∙ mod-eq-of-lt hl)
-        ∙ ap (recordOf x l) record-bits)
 
     -- it is a list of bytes
     pub record-small : (i : ℕ) → getD r i 0 < 256
@@ -355,7 +362,38 @@ module _ (x l : ℕ) (t : List ℕ) where
         (append-small (le 4 l) _ (le-small 4 l)
         (append-small (le 4 (length t)) _ (le-small 4 (length t))
         (append-small (le 4 total) _ (le-small 4 total)
-        (append-small es bs (entries-small (cell t) 0 (superblocksOf (length t))) (λ i. bytes-small (cell t) (512 * superblocksOf (length t)) i bits)))))
+        (append-small es (fs ++ bs) (entries-small K (cell t) 0 (superblocksOf K (length t)))
+        (append-small fs bs (zeros-small (padBytes K (length t)))
+        (λ i. bytes-small (cell t) (superblockBytes K * superblocksOf K (length t)) i bits))))))
+
+    -- of a kind that has what is asked
+    module _ (F : KindFits K) where
+      -- entry e
+      pub record-entry : {told : ℕ → ℕ → ℕ} → EntryTells K told → (e : ℕ) → length t ≤ mostRow → e < superblocksOf K (length t)
+          → num r (headBytes + K .entryBytes * e) (K .entryBytes) ≡ entryOf K (cell t) e
+      record-entry T e h k =
+          piece-entry K r (fs ++ bs) headBytes (cell t) (superblocksOf K (length t)) e from-entries k
+          ∙ mod-eq-of-lt (entry-fits K (cell t) T e bits (omega (arith, superblock-begins K F (length t) e k)))
+
+      -- the bit at position p, padding too
+      pub record-bit : (p : ℕ) → p < K .superblockBits * superblocksOf K (length t) → bitFrom r (bitsStart K (length t)) p ≡ cell t p
+      record-bit p h =
+          piece-bit r [] (bitsStart K (length t)) (cell t) (superblockBytes K * superblocksOf K (length t)) p bits from-bits
+          (omega (arith, bytes-all K F (superblocksOf K (length t))))
+
+      -- the row's bits are those written
+      pub record-bits : rowBits K r (length t) ≡ t
+      record-bits =
+          ext-getD 0 (rowBits K r (length t)) t (length-listOf (bitFrom r (bitsStart K (length t))) (length t))
+          (λ p h.
+          let q : p < length t = omega (arith, length-listOf (bitFrom r (bitsStart K (length t))) (length t)) in
+          getD-listOf (bitFrom r (bitsStart K (length t))) (length t) p q ∙ record-bit p (omega (arith, superblocks-cover K F (length t))))
+
+      -- a record that is written is right
+      pub record-right : x < 2 ^ 32 → l < 2 ^ 32 → Right K r (length t)
+      record-right hx hl =
+          sym (ap₂ (λ (y z : ℕ). recordOf K y z (rowBits K r (length t))) (record-next ∙ mod-eq-of-lt hx) (record-label ∙ mod-eq-of-lt hl)
+          ∙ ap (recordOf K x l) record-bits)
 
 -- ---- a word of a strip
 -- past its length a strip has no ones
@@ -455,98 +493,104 @@ zero-more at s t u j w e =
     word-more (λ p. 0) at s t u j 0 0 0 w e (λ p l. zero-bit p) (sym (sum-none (bit 0) 64 (λ p l. zero-bit p)))
 
 -- ---- a superblock stored and counted block by block
-pub record Blocks (g : ℕ → ℕ) (at : ℕ) (s t counts : List ℕ) (sum j : ℕ) : Type 0 where
+pub record Blocks (K : Kind) (g : ℕ → ℕ) (at : ℕ) (s t counts : List ℕ) (sum j : ℕ) : Type 0 where
   pub put : BitsPut g (64 * j) at s t sum
-  pub counting : Counting g counts sum j
+  pub counting : Counting K g counts sum j
 
--- nothing is stored yet
-pub blocks-none : (g : ℕ → ℕ) (at : ℕ) (s counts : List ℕ) → length counts ≡ 8 → Blocks g at s s counts 0 0
-blocks-none g at s counts h = record { put = bits-none g at s; counting = counting-none g counts h }
+module _ (K : Kind) (g : ℕ → ℕ) (at : ℕ) (s : List ℕ) where
+  -- nothing is stored yet
+  pub blocks-none : (counts : List ℕ) → length counts ≡ superblockBlocks K → Blocks K g at s s counts 0 0
+  blocks-none counts h = record { put = bits-none g at s; counting = counting-none K g counts h }
 
--- one block more
-pub blocks-more : (g : ℕ → ℕ) (at : ℕ) (s t u counts : List ℕ) (sum j q : ℕ) → Blocks g at s t counts sum j → j < 8
-    → BitsPut (λ p. g (8 * (64 * j) + p)) 64 (at + 64 * j) t u q → Blocks g at s u (set counts j (sum + q)) (sum + q) (j + 1)
-blocks-more g at s t u counts sum j q x h b =
-    let put : BitsPut g (64 * (j + 1)) at s u (sum + q) = bits-more g at s t u (64 * j) 64 (64 * (j + 1)) sum q (x .put) b (omega arith) in
-    let whole : 8 * (64 * (j + 1)) ≡ 512 * (j + 1) = omega arith in
-    record { put = put; counting = counting-more g counts sum j (sum + q) (x .counting) h (put .count ∙ ap (ones g) whole) }
+  -- one block more
+  pub blocks-more : (t u counts : List ℕ) (sum j q : ℕ) → Blocks K g at s t counts sum j → j < superblockBlocks K
+      → BitsPut (λ p. g (8 * (64 * j) + p)) 64 (at + 64 * j) t u q → Blocks K g at s u (set counts j (sum + q)) (sum + q) (j + 1)
+  blocks-more t u counts sum j q x h b =
+      let put : BitsPut g (64 * (j + 1)) at s u (sum + q) = bits-more g at s t u (64 * j) 64 (64 * (j + 1)) sum q (x .put) b (omega arith) in
+      let whole : 8 * (64 * (j + 1)) ≡ 512 * (j + 1) = omega arith in
+      record { put = put; counting = counting-more K g counts sum j (sum + q) (x .counting) h (put .count ∙ ap (ones g) whole) }
 
--- all eight are stored
-pub blocks-done : (g : ℕ → ℕ) (at : ℕ) (s t counts : List ℕ) (sum j : ℕ) → Blocks g at s t counts sum j → 8 ≤ j → CountedPut g at s t counts
-blocks-done g at s t counts sum j x h =
-    let e : 64 * j ≡ 512 = omega (arith, x .counting .within) in
-    record { same = bits-size g at s t (64 * j) 512 sum (x .put) e .same; counted = counting-done g counts sum j (x .counting) h }
+  -- all are stored
+  pub blocks-done : KindFits K → (t counts : List ℕ) (sum j : ℕ) → Blocks K g at s t counts sum j → superblockBlocks K ≤ j → CountedPut K g at s t counts
+  blocks-done F t counts sum j x h =
+      let e : 64 * j ≡ superblockBytes K = omega (arith, x .counting .within, F .whole) in
+      record {
+        same = bits-size g at s t (64 * j) (superblockBytes K) sum (x .put) e .same;
+        counted = counting-done K g counts sum j (x .counting) h;
+      }
 
--- ---- a superblock stored: its bits, then its entry in two halves
-pub superblock-stored : (g : ℕ → ℕ) (to : Target) (low high : ℕ) (s s1 s2 s3 counts : List ℕ) → to .entry + 16 ≤ to .bits → CountedPut g (to .bits) s s1 counts
-    → HalvesOf (entryFrom (to .before) counts) low high → s2 ≡ sets s1 (to .entry) (le 8 low) → s3 ≡ sets s2 (to .entry + 8) (le 8 high)
-    → SuperblockPut g to s s3 (to .before + getD counts 7 0)
-superblock-stored g to low high s s1 s2 s3 counts far put halves h2 h3 =
-    let a : ℕ = to .entry in
-    let E : List ℕ = le 16 (superblockEntry g (to .before)) in
-    let B : List ℕ = bytesOf g 512 in
-    let word : low + 2 ^ 64 * high ≡ superblockEntry g (to .before) = halves .whole ∙ entry-made g counts (to .before) (put .counted) in
+-- ---- a superblock stored: its bits, then its entry
+pub superblock-stored : (K : Kind) → KindFits K → (g : ℕ → ℕ) (to : Target) (s t u counts : List ℕ) (v last : ℕ) → to .entry + K .entryBytes ≤ to .bits
+    → CountedPut K g (to .bits) s t counts → v ≡ K .entry g (to .before) → u ≡ sets t (to .entry) (le (K .entryBytes) v) → last + 1 ≡ superblockBlocks K
+    → SuperblockPut K g to s u (to .before + getD counts last 0)
+superblock-stored K F g to s t u counts v last far put is h e =
+    let E : List ℕ = le (K .entryBytes) (K .entry g (to .before)) in
     record {
       same =
-          h3
-          ∙ ap (λ (l : List ℕ). sets l (a + 8) (le 8 high)) h2
-          ∙ put-join s1 a 8 8 low high (halves .small)
-          ∙ ap₂ (λ (l : List ℕ) (v : ℕ). sets l a (le 16 v)) (put .same) word
-          ∙ sets-comm E B s a (to .bits) (omega (arith, length-le 16 (superblockEntry g (to .before))));
-      count = ap (λ (x : ℕ). to .before + x) (put .counted .ends 7 (lit< tt));
+          h
+          ∙ ap₂ (λ (l : List ℕ) (x : ℕ). sets l (to .entry) (le (K .entryBytes) x)) (put .same) is
+          ∙ sets-comm E (bytesOf g (superblockBytes K)) s (to .entry) (to .bits) (omega (arith, length-le (K .entryBytes) (K .entry g (to .before))));
+      count = ap (λ (x : ℕ). to .before + x) (counts-all K F g counts (put .counted) last e);
     }
 
 -- ---- superblocks stored one after another
--- nothing is stored yet
-pub row-none : (f : ℕ → ℕ) (a b : ℕ) (s : List ℕ) → RowPut f 0 a b s s 0
-unfolding entriesFrom listOf
-row-none f a b s = record { same = refl; count = sym (sum-zero f) }
+module _ (K : Kind) (f : ℕ → ℕ) (a b : ℕ) (s : List ℕ) where
+  -- nothing is stored yet
+  pub row-none : RowPut K f 0 a b s s 0
+  unfolding entriesFrom listOf
+  row-none =
+      let z : superblockBytes K * 0 ≡ 0 = mul-zero (superblockBytes K) in
+      let y : K .superblockBits * 0 ≡ 0 = mul-zero (K .superblockBits) in
+      record { same = ap (λ (n : ℕ). sets s b (bytesOf f n)) (sym z); count = sym (sum-zero f) ∙ ap (ones f) (sym y) }
 
--- where superblock e goes, after the entries and the bits of those before it
-abbrev targetOf : ℕ → ℕ → ℕ → ℕ → Target
-targetOf a b e sum = record { entry = a + 16 * e; bits = b + 512 * e; before = sum }
+  -- where superblock e goes, after the entries and the bits of those before it
+  abbrev targetOf : ℕ → ℕ → Target
+  targetOf e sum = record { entry = a + K .entryBytes * e; bits = b + superblockBytes K * e; before = sum }
 
--- one superblock more
-pub row-more : (f : ℕ → ℕ) (e a b : ℕ) (s t u : List ℕ) (sum r : ℕ) → RowPut f e a b s t sum → SuperblockPut (λ p. f (4096 * e + p)) (targetOf a b e sum) t u r
-    → a + 16 * (e + 1) ≤ b → RowPut f (e + 1) a b s u r
-row-more f e a b s t u sum r x y far =
-    let g : ℕ → ℕ = λ p. f (4096 * e + p) in
-    let E : List ℕ = le 16 (entryOf f e) in
-    let B : List ℕ = bytesOf g 512 in
-    let ES : List ℕ = entriesFrom f 0 e in
-    let BS : List ℕ = bytesOf f (512 * e) in
-    let entry : superblockEntry g sum ≡ entryOf f e = entry-placed f e sum (x .count) in
-    let z : 0 + e ≡ e = omega arith in
-    let entries : ES ++ E ≡ entriesFrom f 0 (e + 1) =
-    sym (entries-append f 0 e 1 ∙ ap (λ (l : List ℕ). ES ++ l) (ap (λ (k : ℕ). entriesFrom f k 1) z ∙ entries-one f e)) in
-    let place : (p : ℕ) → 4096 * e + p ≡ 8 * (512 * e) + p = λ p. omega arith in
-    let i : 512 * e + 512 ≡ 512 * (e + 1) = omega arith in
-    let j : 4096 * e + 4096 ≡ 4096 * (e + 1) = omega arith in
-    let bytes : BS ++ B ≡ bytesOf f (512 * (e + 1)) =
-    ap (λ (l : List ℕ). BS ++ l) (bytes-ext g (λ p. f (8 * (512 * e) + p)) 512 (λ p l. ap f (place p)))
-    ∙ sym (bytes-append f (512 * e) 512)
-    ∙ ap (bytesOf f) i in
-    record {
-      same =
-          y .same
-          ∙ ap₂ (λ (v : ℕ) (l : List ℕ). sets (sets l (a + 16 * e) (le 16 v)) (b + 512 * e) B) entry (x .same)
-          ∙ ap (λ (l : List ℕ). sets l (b + 512 * e) B) (sets-comm E BS (sets s a ES) (a + 16 * e) b (omega (arith, length-le 16 (entryOf f e))))
-          ∙ sets-join BS B (sets (sets s a ES) (a + 16 * e) E) b (b + 512 * e) (omega (arith, length-bytes f (512 * e)))
-          ∙ ap₂ (λ (l m : List ℕ). sets l b m)
-          (sets-join ES E s a (a + 16 * e) (omega (arith, length-entries f 0 e)) ∙ ap (sets s a) entries) bytes;
-      count = omega (arith, x .count, y .count, sum-split f (4096 * e) 4096, ap (ones f) j);
-    }
+  -- one superblock more
+  pub row-more : KindFits K → (e : ℕ) (t u : List ℕ) (sum r : ℕ) → RowPut K f e a b s t sum
+      → SuperblockPut K (λ p. f (K .superblockBits * e + p)) (targetOf e sum) t u r → a + K .entryBytes * (e + 1) ≤ b → RowPut K f (e + 1) a b s u r
+  row-more F e t u sum r x y far =
+      let bb : ℕ = K .superblockBits in
+      let eb : ℕ = K .entryBytes in
+      let sb : ℕ = superblockBytes K in
+      let g : ℕ → ℕ = λ p. f (bb * e + p) in
+      let E : List ℕ = le eb (entryOf K f e) in
+      let B : List ℕ = bytesOf g sb in
+      let ES : List ℕ = entriesFrom K f 0 e in
+      let BS : List ℕ = bytesOf f (sb * e) in
+      let entry : K .entry g sum ≡ entryOf K f e = entry-placed K f e sum (x .count) in
+      let z : 0 + e ≡ e = omega arith in
+      let entries : ES ++ E ≡ entriesFrom K f 0 (e + 1) =
+      sym (entries-append K f 0 e 1 ∙ ap (λ (l : List ℕ). ES ++ l) (ap (λ (k : ℕ). entriesFrom K f k 1) z ∙ entries-one K f e)) in
+      let i : sb * e + sb ≡ sb * (e + 1) = sym (mul-add sb e 1 ∙ ap (λ (k : ℕ). sb * e + k) (mul-one sb)) in
+      let j : bb * e + bb ≡ bb * (e + 1) = sym (mul-add bb e 1 ∙ ap (λ (k : ℕ). bb * e + k) (mul-one bb)) in
+      let k : eb * e + eb ≡ eb * (e + 1) = sym (mul-add eb e 1 ∙ ap (λ (k : ℕ). eb * e + k) (mul-one eb)) in
+      let bytes : BS ++ B ≡ bytesOf f (sb * (e + 1)) =
+      ap (λ (l : List ℕ). BS ++ l) (bytes-ext g (λ p. f (8 * (sb * e) + p)) sb (λ p l. ap (λ (q : ℕ). f (q + p)) (sym (bytes-all K F e))))
+      ∙ sym (bytes-append f (sb * e) sb)
+      ∙ ap (bytesOf f) i in
+      record {
+        same =
+            y .same
+            ∙ ap₂ (λ (v : ℕ) (l : List ℕ). sets (sets l (a + eb * e) (le eb v)) (b + sb * e) B) entry (x .same)
+            ∙ ap (λ (l : List ℕ). sets l (b + sb * e) B) (sets-comm E BS (sets s a ES) (a + eb * e) b (omega (arith, length-le eb (entryOf K f e), k)))
+            ∙ sets-join BS B (sets (sets s a ES) (a + eb * e) E) b (b + sb * e) (omega (arith, length-bytes f (sb * e)))
+            ∙ ap₂ (λ (l m : List ℕ). sets l b m)
+            (sets-join ES E s a (a + eb * e) (omega (arith, length-entries K f 0 e)) ∙ ap (sets s a) entries) bytes;
+        count = omega (arith, x .count, y .count, sum-split f (bb * e) bb, ap (ones f) j);
+      }
 
--- the length stays
-pub row-length : (f : ℕ → ℕ) (k a b : ℕ) (s t : List ℕ) (r : ℕ) → RowPut f k a b s t r → length t ≡ length s
-row-length f k a b s t r x =
-    ap length (x .same) ∙ length-sets (sets s a (entriesFrom f 0 k)) b (bytesOf f (512 * k)) ∙ length-sets s a (entriesFrom f 0 k)
+  -- the length stays
+  pub row-length : (k : ℕ) (t : List ℕ) (r : ℕ) → RowPut K f k a b s t r → length t ≡ length s
+  row-length k t r x =
+      ap length (x .same) ∙ length-sets (sets s a (entriesFrom K f 0 k)) b (bytesOf f (superblockBytes K * k)) ∙ length-sets s a (entriesFrom K f 0 k)
 
--- of bits, there are no more ones than bits
-pub row-le : (f : ℕ → ℕ) (k a b : ℕ) (s t : List ℕ) (r : ℕ) → RowPut f k a b s t r → ((p : ℕ) → f p ≤ 1) → r ≤ 4096 * k
-row-le f k a b s t r x h = omega (arith, x .count, ones-le f (4096 * k) h)
+  -- of bits, there are no more ones than bits
+  pub row-le : (k : ℕ) (t : List ℕ) (r : ℕ) → RowPut K f k a b s t r → ((p : ℕ) → f p ≤ 1) → r ≤ K .superblockBits * k
+  row-le k t r x h = omega (arith, x .count, ones-le f (K .superblockBits * k) h)
 
--- ---- a record stored: its superblocks first, then its four numbers
+-- ---- a record stored: its superblocks first, then the zeros that pad its entries, then its four numbers
 -- four numbers side by side
 put-four : (s A B C D : List ℕ) (at : ℕ) → length A ≡ 4 → length B ≡ 4 → length C ≡ 4
     → sets (sets (sets (sets s at A) (at + 4) B) (at + 8) C) (at + 12) D ≡ sets s at (A ++ (B ++ (C ++ D)))
@@ -555,23 +599,37 @@ put-four s A B C D at a b c =
     ∙ sets-join B (C ++ D) (sets s at A) (at + 4) (at + 8) (omega arith)
     ∙ sets-join A (B ++ (C ++ D)) s at (at + 4) (omega arith)
 
+-- entries, then zeros between them and the bits
+between : (s es fs bs : List ℕ) (a b c : ℕ) → b ≡ a + length es → c ≡ b + length fs → sets (sets (sets s a es) c bs) b fs ≡ sets s a (es ++ (fs ++ bs))
+between s es fs bs a b c eb ec =
+    sets-comm fs bs (sets s a es) b c (omega arith)
+    ∙ ap (λ (l : List ℕ). sets l c bs) (sets-join es fs s a b eb)
+    ∙ sets-join (es ++ fs) bs s a c (omega (arith, length-append es fs))
+    ∙ ap (sets s a) (append-assoc es fs bs)
+
 -- the whole record
-pub record-stored : (t : List ℕ) (n label total at b : ℕ) (s s1 s2 s3 s4 s5 : List ℕ) → length t ≡ n → ((p : ℕ) → cell t p ≤ 1)
-    → b ≡ at + 16 + 16 * superblocksOf n → RowPut (cell t) (superblocksOf n) (at + 16) b s s1 total → s2 ≡ sets s1 at (le 4 0)
-    → s3 ≡ sets s2 (at + 4) (le 4 label) → s4 ≡ sets s3 (at + 8) (le 4 n)
-    → s5 ≡ sets s4 (at + 12) (le 4 total) → s5 ≡ sets s at (recordOf 0 label t)
+pub record-stored : (K : Kind) → KindFits K → (t : List ℕ) (n label total at b : ℕ) (s s1 s2 s3 s4 s5 s6 : List ℕ) → length t ≡ n → ((p : ℕ) → cell t p ≤ 1)
+    → b ≡ at + bitsStart K n → RowPut K (cell t) (superblocksOf K n) (at + headBytes) b s s1 total
+    → s2 ≡ sets s1 (at + headBytes + entriesBytes K n) (zeros (padBytes K n)) → s3 ≡ sets s2 at (le 4 0)
+    → s4 ≡ sets s3 (at + 4) (le 4 label) → s5 ≡ sets s4 (at + 8) (le 4 n)
+    → s6 ≡ sets s5 (at + 12) (le 4 total) → s6 ≡ sets s at (recordOf K 0 label t)
 unfolding recordOf
-record-stored t n label total at b s s1 s2 s3 s4 s5 long bits place row h2 h3 h4 h5 =
-    let k : ℕ = superblocksOf n in
+record-stored K F t n label total at b s s1 s2 s3 s4 s5 s6 long bits place row h2 h3 h4 h5 h6 =
+    let k : ℕ = superblocksOf K n in
     let A : List ℕ = le 4 0 in
     let B : List ℕ = le 4 label in
     let C : List ℕ = le 4 n in
     let D : List ℕ = le 4 total in
-    let X : List ℕ = entriesFrom (cell t) 0 k ++ bytesOf (cell t) (512 * k) in
+    let ES : List ℕ = entriesFrom K (cell t) 0 k in
+    let FS : List ℕ = zeros (padBytes K n) in
+    let BS : List ℕ = bytesOf (cell t) (superblockBytes K * k) in
+    let X : List ℕ = ES ++ (FS ++ BS) in
     let H : List ℕ = A ++ (B ++ (C ++ D)) in
-    let whole : s1 ≡ sets s (at + 16) X =
-    row .same ∙ sets-join (entriesFrom (cell t) 0 k) (bytesOf (cell t) (512 * k)) s (at + 16) b (omega (arith, length-entries (cell t) 0 k)) in
-    let header : length H ≡ 16 =
+    let whole : s2 ≡ sets s (at + headBytes) X =
+    h2 ∙ ap (λ (l : List ℕ). sets l (at + headBytes + entriesBytes K n) FS) (row .same)
+    ∙ between s ES FS BS (at + headBytes) (at + headBytes + entriesBytes K n) b (omega (arith, length-entries K (cell t) 0 k))
+    (omega (arith, length-replicate {A = ℕ} (padBytes K n) 0, pad-ends K n)) in
+    let header : length H ≡ headBytes =
     omega (
       arith,
       length-append A (B ++ (C ++ D)),
@@ -582,41 +640,43 @@ record-stored t n label total at b s s1 s2 s3 s4 s5 long bits place row h2 h3 h4
       length-le 4 n,
       length-le 4 total,
     ) in
-    let sum : total ≡ rank t 1 (length t) = row .count ∙ ones-past t (4096 * k) (omega arith) ∙ sym (rank-all t bits) in
+    let sum : total ≡ rank t 1 (length t) = row .count ∙ ones-past t (K .superblockBits * k) (omega (arith, superblocks-cover K F n)) ∙ sym (rank-all t bits) in
     let flat : H ++ X ≡ A ++ (B ++ (C ++ (D ++ X))) = simp append-assoc in
-    h5
+    h6
     ∙ ap (λ (l : List ℕ). sets l (at + 12) D)
-    (h4 ∙ ap (λ (l : List ℕ). sets l (at + 8) C) (h3 ∙ ap (λ (l : List ℕ). sets l (at + 4) B) (h2 ∙ ap (λ (l : List ℕ). sets l at A) whole)))
-    ∙ put-four (sets s (at + 16) X) A B C D at (length-le 4 0) (length-le 4 label) (length-le 4 n)
-    ∙ sets-comm H X s at (at + 16) (omega (arith, header))
-    ∙ sets-join H X s at (at + 16) (omega (arith, header))
+    (h5 ∙ ap (λ (l : List ℕ). sets l (at + 8) C) (h4 ∙ ap (λ (l : List ℕ). sets l (at + 4) B) (h3 ∙ ap (λ (l : List ℕ). sets l at A) whole)))
+    ∙ put-four (sets s (at + headBytes) X) A B C D at (length-le 4 0) (length-le 4 label) (length-le 4 n)
+    ∙ sets-comm H X s at (at + headBytes) (omega (arith, header))
+    ∙ sets-join H X s at (at + headBytes) (omega (arith, header))
     ∙ ap (sets s at) flat
-    ∙ ap₂ (λ (m c : ℕ). sets s at (A ++ (B ++ (le 4 m ++ (le 4 c ++ (entriesFrom (cell t) 0 (superblocksOf m) ++ bytesOf (cell t) (512 * superblocksOf m)))))))
+    ∙ ap₂ (λ (m c : ℕ). sets s at (A ++ (B ++ (le 4 m ++ (le 4 c ++ (entriesFrom K (cell t) 0 (superblocksOf K m)
+    ++ (zeros (padBytes K m) ++ bytesOf (cell t) (superblockBytes K * superblocksOf K m))))))))
     (sym long) sum
 
 -- ---- the header of an image
 -- it has one unit
-pub length-header : (first : ℕ) → length (headerOf first) ≡ 16
-length-header first =
+pub length-header : (K : Kind) (first : ℕ) → length (headerOf K first) ≡ unitBytes
+length-header K first =
     omega (
       arith,
-      length-append (le 4 first) (le 4 kind ++ le 8 0),
-      length-append (le 4 kind) (le 8 0),
+      length-append (le 4 first) (le 4 (K .number) ++ le 8 0),
+      length-append (le 4 (K .number)) (le 8 0),
       length-le 4 first,
-      length-le 4 kind,
+      length-le 4 (K .number),
       length-le 8 0,
     )
 
 -- its three numbers stored, and the rest as it was
-pub header-stored : (s t u v : List ℕ) (x : ℕ) → 16 ≤ length s → t ≡ sets s 0 (le 4 x) → u ≡ sets t 4 (le 4 kind) → v ≡ sets u 8 (le 8 0)
-    → v ≡ headerOf x ++ drop 16 s
-header-stored s t u v x h et eu ev =
+pub header-stored : (K : Kind) (s t u v : List ℕ) (x : ℕ) → unitBytes ≤ length s → t ≡ sets s 0 (le 4 x) → u ≡ sets t 4 (le 4 (K .number))
+    → v ≡ sets u 8 (le 8 0)
+    → v ≡ headerOf K x ++ drop unitBytes s
+header-stored K s t u v x h et eu ev =
     let A : List ℕ = le 4 x in
-    let B : List ℕ = le 4 kind in
+    let B : List ℕ = le 4 (K .number) in
     let C : List ℕ = le 8 0 in
-    let long : length (A ++ (B ++ C)) ≡ 16 = length-header x in
+    let long : length (A ++ (B ++ C)) ≡ unitBytes = length-header K x in
     ev ∙ ap (λ (l : List ℕ). sets l 8 C) (eu ∙ ap (λ (l : List ℕ). sets l 4 B) et)
-    ∙ sets-join B C (sets s 0 A) 4 8 (omega (arith, length-le 4 kind))
+    ∙ sets-join B C (sets s 0 A) 4 8 (omega (arith, length-le 4 (K .number)))
     ∙ sets-join A (B ++ C) s 0 4 (omega (arith, length-le 4 x))
     ∙ sets-front (A ++ (B ++ C)) s (omega (arith, long))
     ∙ ap (λ (k : ℕ). (A ++ (B ++ C)) ++ drop k s) long

@@ -14,8 +14,9 @@ use Rattle.words.specs.Handles.{untaken, stripLines}
 use Rattle.words.specs.Calls.{valueLine, belowLine, withinLine, absentLine}
 use Rattle.counters.specs.Promises.{Promise, AtMost, Below}
 use Rattle.image.specs.Bytes.{le}
+use Rattle.image.specs.Kinds.{Kind, clearKind}
 use Rattle.image.specs.Layout.{unitBytes, headBytes, mostRow, sizeOf, recordOf}
-use Rattle.image.specs.Chain.{headerOf, labelAt, lengthAt, goodLabel, goodFields, goodSize, chainOf, placeOf, chainEnd, linkOf}
+use Rattle.image.specs.Chain.{headerOf, kindOf, labelAt, lengthAt, goodLabel, goodFields, goodSize, chainOf, placeOf, chainEnd, linkOf}
 use Rattle.image.specs.Rows.{partAt, rowBits, rightPart, Right}
 
 -- whether there is something
@@ -45,7 +46,9 @@ clearTable bytes = (not (goodSize bytes) ⇒ 13) ∷ []
 
 -- it writes the header of an empty chain and no other byte, and answers 16
 abbrev pub clearOutcome : List ℕ → ImageOutcome
-clearOutcome s = unless (judge (clearTable (length s))) (λ n. imageOutcome (refused n) s) (imageOutcome (value unitBytes) (headerOf 0 ++ drop unitBytes s))
+clearOutcome s =
+    unless (judge (clearTable (length s))) (λ n. imageOutcome (refused n) s)
+    (imageOutcome (value unitBytes) (headerOf clearKind 0 ++ drop unitBytes s))
 
 -- 10 chain not sound
 abbrev pub soundLine : Bool → Line
@@ -66,22 +69,23 @@ placeLines sound label present bytes end = soundLine sound ∷ labelLine label �
 -- a new record of `size` bytes, at the end of an image's chain
 abbrev pub recordLines : List ℕ → ℕ → ℕ → List Line
 recordLines s label size =
-    placeLines (isSome (chainOf s)) label (isSome (recordWith s label)) (length s) (chainEnd s (recordsOf s) + size)
+    placeLines (isSome (chainOf s)) label (isSome (recordWith s label)) (length s) (chainEnd (kindOf s) s (recordsOf s) + size)
 
 -- freeze(label): words only; 1, 2; 10; 11; 12; 13
 abbrev pub freezeTable : Handle → ℕ → List ℕ → ℕ → List Line
-freezeTable h words s label = stripLines h words untaken ++ recordLines s label (sizeOf (h .length))
+freezeTable h words s label = stripLines h words untaken ++ recordLines s label (sizeOf (kindOf s) (h .length))
 
 -- the image with the record of strip t: it starts at the last record's end, or unit 1; its unit index replaces the zero that ended the chain
 abbrev pub frozen : List ℕ → ℕ → List ℕ → List ℕ
 frozen s label t =
-    sets (sets s (linkOf (recordsOf s)) (le 4 (chainEnd s (recordsOf s) / unitBytes))) (chainEnd s (recordsOf s)) (recordOf 0 label t)
+    sets (sets s (linkOf (recordsOf s)) (le 4 (chainEnd (kindOf s) s (recordsOf s) / unitBytes))) (chainEnd (kindOf s) s (recordsOf s))
+    (recordOf (kindOf s) 0 label t)
 
 -- it answers its unit index
 abbrev pub freezeOutcome : Handle → List ℕ → List ℕ → ℕ → ImageOutcome
 freezeOutcome h ws s label =
     unless (judge (freezeTable h (length ws) s label)) (λ n. imageOutcome (refused n) s)
-    (imageOutcome (value (chainEnd s (recordsOf s) / unitBytes)) (frozen s label (stripOf ws (h .length))))
+    (imageOutcome (value (chainEnd (kindOf s) s (recordsOf s) / unitBytes)) (frozen s label (stripOf ws (h .length))))
 
 -- a row by its label: 10; 11; 14 label absent
 abbrev pub rowLines : Bool → ℕ → Bool → List Line
@@ -94,7 +98,7 @@ inspectLines sound right = soundLine sound ∷ (not right ⇒ 15) ∷ []
 -- whether every row of some records is right
 unfoldable pub allRight : List ℕ → List ℕ → Bool
 allRight s [] = true
-allRight s (a ∷ rs) = rightPart (partAt s a) (lengthAt s a) && allRight s rs
+allRight s (a ∷ rs) = rightPart (kindOf s) (partAt (kindOf s) s a) (lengthAt s a) && allRight s rs
 
 -- it answers the number of rows
 abbrev pub inspectTold : List ℕ → Told
@@ -110,7 +114,7 @@ abbrev pub rowPlace : List ℕ → ℕ → ℕ
 rowPlace s label = placeIn 0 (recordWith s label)
 
 abbrev pub rowPart : List ℕ → ℕ → List ℕ
-rowPart s label = partAt s (rowPlace s label)
+rowPart s label = partAt (kindOf s) s (rowPlace s label)
 
 abbrev pub rowLength : List ℕ → ℕ → ℕ
 rowLength s label = lengthAt s (rowPlace s label)
@@ -127,56 +131,58 @@ openPart s label = unless (judge (openTable s label)) (λ n. []) (rowPart s labe
 unfoldable pub heldLength : List ℕ → ℕ
 heldLength part = cond (leb headBytes (length part)) (lengthAt part 0) 0
 
--- A row's part and a held length n.
+-- A row's part, of kind K, and a held length n.
 
 -- the part is exactly one record with label and length in range, and n is its length
-unfoldable pub goodPart : List ℕ → ℕ → Bool
-goodPart part n =
-    leb headBytes (length part) && (goodFields part 0 && (eqb (length part) (sizeOf (lengthAt part 0)) && eqb n (lengthAt part 0)))
+unfoldable pub goodPart : Kind → List ℕ → ℕ → Bool
+goodPart K part n =
+    leb headBytes (length part) && (goodFields part 0 && (eqb (length part) (sizeOf K (lengthAt part 0)) && eqb n (lengthAt part 0)))
 
 -- 10 before all else
-abbrev pub partLine : List ℕ → ℕ → Line
-partLine part n = not (goodPart part n) ⇒ 10
+abbrev pub partLine : Kind → List ℕ → ℕ → Line
+partLine K part n = not (goodPart K part n) ⇒ 10
 
 -- look(i) on a part: 10; 4; the bit
-abbrev pub partGetTold : List ℕ → ℕ → ℕ → Told
-partGetTold part n i = unless (judge (partLine part n ∷ belowLine n i ∷ [])) refused (value (cell (rowBits part n) i))
+abbrev pub partGetTold : Kind → List ℕ → ℕ → ℕ → Told
+partGetTold K part n i = unless (judge (partLine K part n ∷ belowLine n i ∷ [])) refused (value (cell (rowBits K part n) i))
 
 -- count(v, i) on a part: 10; 8; 4; then 15; on a wrong row at most i, and so at most the length, or 15
-abbrev pub PartRanked : List ℕ → ℕ → ℕ → ℕ → Told → Type 0
-PartRanked part n v i =
-    Promise Told (judge (partLine part n ∷ valueLine v ∷ withinLine n i ∷ [])) refused (value (rank (rowBits part n) v i)) (Right part n) (AtMost 15 i)
+abbrev pub PartRanked : Kind → List ℕ → ℕ → ℕ → ℕ → Told → Type 0
+PartRanked K part n v i =
+    Promise Told (judge (partLine K part n ∷ valueLine v ∷ withinLine n i ∷ [])) refused (value (rank (rowBits K part n) v i)) (Right K part n) (AtMost 15 i)
 
 -- find(v, k) on a part: 10; 8; 6 where k is not below the length, on any row. Below the length: on a right row 6 exactly where k is not below the number of
 -- v; on any other a position, 6 or 15
-abbrev pub PartSelected : List ℕ → ℕ → ℕ → ℕ → Told → Type 0
-PartSelected part n v k =
-    Promise Told (judge (partLine part n ∷ valueLine v ∷ absentLine n k ∷ [])) refused (found (select (rowBits part n) v k)) (Right part n) (Below 15 n)
+abbrev pub PartSelected : Kind → List ℕ → ℕ → ℕ → ℕ → Told → Type 0
+PartSelected K part n v k =
+    Promise Told (judge (partLine K part n ∷ valueLine v ∷ absentLine n k ∷ [])) refused (found (select (rowBits K part n) v k)) (Right K part n) (Below 15 n)
 
 -- A row of an image, by its label: 10; 11; 14; then as on its part.
 
 -- row look: then 4; the bit
 abbrev pub rowGetTold : List ℕ → ℕ → ℕ → Told
 rowGetTold s label i =
-    unless (judge (openTable s label ++ (belowLine (rowLength s label) i ∷ []))) refused (value (cell (rowBits (rowPart s label) (rowLength s label)) i))
+    unless (judge (openTable s label ++ (belowLine (rowLength s label) i ∷ []))) refused
+    (value (cell (rowBits (kindOf s) (rowPart s label) (rowLength s label)) i))
 
 -- row count: then 8; 4; 15 last; on a wrong row at most i, and so at most the length, or 15
 abbrev pub RowRanked : List ℕ → ℕ → ℕ → ℕ → Told → Type 0
 RowRanked s label v i =
     Promise Told (judge (openTable s label ++ (valueLine v ∷ withinLine (rowLength s label) i ∷ []))) refused
-    (value (rank (rowBits (rowPart s label) (rowLength s label)) v i)) (Right (rowPart s label) (rowLength s label)) (AtMost 15 i)
+    (value (rank (rowBits (kindOf s) (rowPart s label) (rowLength s label)) v i)) (Right (kindOf s) (rowPart s label) (rowLength s label)) (AtMost 15 i)
 
 -- row find: then 8; 6; 15 last
 abbrev pub RowSelected : List ℕ → ℕ → ℕ → ℕ → Told → Type 0
 RowSelected s label v k =
     Promise Told (judge (openTable s label ++ (valueLine v ∷ absentLine (rowLength s label) k ∷ []))) refused
-    (found (select (rowBits (rowPart s label) (rowLength s label)) v k)) (Right (rowPart s label) (rowLength s label)) (Below 15 (rowLength s label))
+    (found (select (rowBits (kindOf s) (rowPart s label) (rowLength s label)) v k)) (Right (kindOf s) (rowPart s label) (rowLength s label))
+    (Below 15 (rowLength s label))
 
 -- Queries about sizes, lengths and labels.
 
--- the bytes of the record of n bits: 4 n above the longest row
+-- the bytes of the record of n bits, in an image that clear made: 4 n above the longest row
 abbrev pub recordSizeTold : ℕ → Told
-recordSizeTold n = unless (judge (withinLine mostRow n ∷ [])) refused (value (sizeOf n))
+recordSizeTold n = unless (judge (withinLine mostRow n ∷ [])) refused (value (sizeOf clearKind n))
 
 -- the length of a row, by its label: 10; 11; 14
 abbrev pub rowLengthTold : List ℕ → ℕ → Told

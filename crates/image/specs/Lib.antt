@@ -1,4 +1,5 @@
 pub mod Bytes
+pub mod Kinds
 pub mod Layout
 pub mod Chain
 pub mod Rows
@@ -8,3 +9,4 @@ pub mod RoundTrip
 pub mod Walk
 pub mod Writing
 pub mod Reading
+pub mod Entry

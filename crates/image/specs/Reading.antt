@@ -1,40 +1,27 @@
--- Derived, for inner contracts: what the entries of a row's part say, where a search over its blocks of 512 bits stands, the position found, and the
--- padding. Laws in proofs/ tie them to the definitions. Assumes nothing.
-use Prim.Native.Nat.{ℕ, zero, suc, _+_, _*_, _/_, _%_, _^_, _≤_, _<_}
+-- Derived, for inner contracts: what the entries of a row's part tell, where a search over its blocks of 512 bits stands, the position found, the padding, and
+-- the bytes that pad the entries. Laws in proofs/ tie them to the definitions. Assumes nothing.
+use Prim.Native.Nat.{ℕ, _+_, _*_, _/_, _%_, _≤_, _<_}
 use mathlib.Core.Path.{_≡_}
 use mathlib.Core.List.{List}
 use mathlib.Core.Logic.{_⊎_}
-use lib.ListN.{length}
+use lib.ListN.{length, getD}
 use Rattle.words.specs.Strip.{cell, rankOf, selectOf}
 use Rattle.words.specs.Words.{placeIn}
-use Rattle.words.specs.Working.{ofValue}
-use Rattle.words.specs.Handles.{blockBits}
 use Rattle.image.specs.Bytes.{num, bitFrom}
-use Rattle.image.specs.Layout.{superblockBits, headBytes, entryBytes, superblocksOf, bitsStart}
+use Rattle.image.specs.Kinds.{Kind}
+use Rattle.image.specs.Layout.{headBytes, superblockBlocks, superblocksOf, entriesBytes, padBytes, bitsStart}
 use Rattle.image.specs.Rows.{rowBits, Right}
 
--- the fields of an entry v: the ones before its superblock, and those of the superblock before its block j
-abbrev pub superblockField : ℕ → ℕ
-superblockField v = v % 2 ^ 44
+-- entry e of a part, and that the part has it
+abbrev pub entryNumber : Kind → List ℕ → ℕ → ℕ
+entryNumber K part e = num part (headBytes + K .entryBytes * e) (K .entryBytes)
 
-unfoldable pub blockField : ℕ → ℕ → ℕ
-blockField v zero = 0
-blockField v (suc j) = v / 2 ^ (44 + 12 * j) % 2 ^ 12
+abbrev pub HasEntry : Kind → List ℕ → ℕ → Type 0
+HasEntry K part e = headBytes + K .entryBytes * e + K .entryBytes ≤ length part
 
--- the entry of the superblock of block m, and that the part has it
-abbrev pub entryNumber : List ℕ → ℕ → ℕ
-entryNumber part m = num part (headBytes + entryBytes * (m / 8)) entryBytes
-
-abbrev pub HasEntry : List ℕ → ℕ → Type 0
-HasEntry part m = headBytes + entryBytes * (m / 8) + entryBytes ≤ length part
-
--- the ones before block m, as it says
-unfoldable pub entryOnes : List ℕ → ℕ → ℕ
-entryOnes part m = superblockField (entryNumber part m) + blockField (entryNumber part m) (m % 8)
-
--- the number of v before it
-abbrev pub entryValues : List ℕ → ℕ → ℕ → ℕ
-entryValues part v m = ofValue v (blockBits * m) (entryOnes part m)
+-- the ones before block m, as the entry of its superblock tells: `told v j` are those before block j of the superblock of an entry v
+abbrev pub onesTold : Kind → (ℕ → ℕ → ℕ) → List ℕ → ℕ → ℕ
+onesTold K told part m = told (entryNumber K part (m / superblockBlocks K)) (m % superblockBlocks K)
 
 -- of the numbers P 0 to P (end - 1), a search for k has come to the places lo to hi - 1: P lo is at most k unless lo is the first place, and P hi is
 -- above k unless hi is past the last
@@ -43,10 +30,14 @@ pub record Halved (P : ℕ → ℕ) (end k lo hi : ℕ) : Type 0 where
   pub high : (end ≤ hi) ⊎ (k < P hi)
 
 -- r is at most n, and of a right row with more than k of v the position of the k-th v
-abbrev pub PositionIn : List ℕ → ℕ → ℕ → ℕ → ℕ → Type 0
-PositionIn part n v k r =
-    (r ≤ n) × (Right part n → k < rankOf (cell (rowBits part n)) v n → r ≡ placeIn n (selectOf (cell (rowBits part n)) n v k))
+abbrev pub PositionIn : Kind → List ℕ → ℕ → ℕ → ℕ → ℕ → Type 0
+PositionIn K part n v k r =
+    (r ≤ n) × (Right K part n → k < rankOf (cell (rowBits K part n)) v n → r ≡ placeIn n (selectOf (cell (rowBits K part n)) n v k))
 
 -- the bits of a row's part past its length n are zero, to the end of its last superblock
-abbrev pub PaddingZero : List ℕ → ℕ → Type 0
-PaddingZero part n = (p : ℕ) → n ≤ p → p < superblockBits * superblocksOf n → bitFrom part (bitsStart n) p ≡ 0
+abbrev pub PaddingZero : Kind → List ℕ → ℕ → Type 0
+PaddingZero K part n = (p : ℕ) → n ≤ p → p < K .superblockBits * superblocksOf K n → bitFrom part (bitsStart K n) p ≡ 0
+
+-- the bytes that pad its entries to a whole unit are zero
+abbrev pub PadZero : Kind → List ℕ → ℕ → Type 0
+PadZero K part n = (i : ℕ) → i < padBytes K n → getD part (headBytes + entriesBytes K n + i) 0 ≡ 0

@@ -7,34 +7,35 @@ use mathlib.Core.Option.{some}
 use lib.ListN.{length, getD, take, drop}
 use Rattle.words.specs.Bits.{listOf, same}
 use Rattle.image.specs.Bytes.{bitFrom}
+use Rattle.image.specs.Kinds.{Kind}
 use Rattle.image.specs.Layout.{bitsStart, sizeOf, recordOf}
-use Rattle.image.specs.Chain.{nextAt, labelAt, lengthAt, chainOf}
+use Rattle.image.specs.Chain.{nextAt, labelAt, lengthAt, kindOf, chainOf}
 
 -- the row's own part of the image, from its record's start to its end
-abbrev pub partAt : List ℕ → ℕ → List ℕ
-partAt s a = take (sizeOf (lengthAt s a)) (drop a s)
+abbrev pub partAt : Kind → List ℕ → ℕ → List ℕ
+partAt K s a = take (sizeOf K (lengthAt s a)) (drop a s)
 
 -- the row's bits: those of a part of n bits
-abbrev pub rowBits : List ℕ → ℕ → List ℕ
-rowBits part n = listOf (bitFrom part (bitsStart n)) n
+abbrev pub rowBits : Kind → List ℕ → ℕ → List ℕ
+rowBits K part n = listOf (bitFrom part (bitsStart K n)) n
 
 -- a row is right, its ones, entries and padding, when its part is the record that would be written for its bits
-abbrev pub Right : List ℕ → ℕ → Type 0
-Right part n = part ≡ recordOf (nextAt part 0) (labelAt part 0) (rowBits part n)
+abbrev pub Right : Kind → List ℕ → ℕ → Type 0
+Right K part n = part ≡ recordOf K (nextAt part 0) (labelAt part 0) (rowBits K part n)
 
 -- whether a row is right
-abbrev pub rightPart : List ℕ → ℕ → Bool
-rightPart part n = same part (recordOf (nextAt part 0) (labelAt part 0) (rowBits part n))
+abbrev pub rightPart : Kind → List ℕ → ℕ → Bool
+rightPart K part n = same part (recordOf K (nextAt part 0) (labelAt part 0) (rowBits K part n))
 
 -- the row of the record at byte a is right
-abbrev pub RightAt : List ℕ → ℕ → Type 0
-RightAt s a = Right (partAt s a) (lengthAt s a)
+abbrev pub RightAt : Kind → List ℕ → ℕ → Type 0
+RightAt K s a = Right K (partAt K s a) (lengthAt s a)
 
 -- an image that obeys the layout: a sound chain of right rows
 pub record Obeys (s : List ℕ) : Type 0 where
   pub records : List ℕ
   pub sound : chainOf s ≡ some records
-  pub right : (i : ℕ) → i < length records → RightAt s (getD records i 0)
+  pub right : (i : ℕ) → i < length records → RightAt (kindOf s) s (getD records i 0)
 
 -- one whose chain is sound and some row of which is not right
 pub record HasWrongRow (s : List ℕ) : Type 0 where
@@ -42,4 +43,4 @@ pub record HasWrongRow (s : List ℕ) : Type 0 where
   pub sound : chainOf s ≡ some records
   pub index : ℕ
   pub within : index < length records
-  pub wrong : RightAt s (getD records index 0) → ⊥
+  pub wrong : RightAt (kindOf s) s (getD records index 0) → ⊥

@@ -1,6 +1,6 @@
 // The header, and the chain of records.
 ghost use mathlib.Core.Path.{_≡_};
-ghost use Rattle.image.specs.Chain.{soundHeader, soundRecord};
+ghost use Rattle.image.specs.Chain.{kindOf, soundHeader, soundRecord};
 ghost use Rattle.image.specs.Walk.{scanOf};
 use super::bytes::index_at;
 use super::bytes::u64_at;
@@ -42,7 +42,7 @@ pub fn header_sound(image: &[u8]) -> bool
 
 // Whether the record at byte `at` lies inside the image, has a label and a length in range, and has a next that is zero or not before its end.
 pub fn record_sound(image: &[u8], at: usize) -> bool
-    ensures { λ r. ⌜ r ≡ soundRecord (now (image .entry)) at ⌝ }
+    ensures { λ r. ⌜ r ≡ soundRecord (kindOf (now (image .entry))) (now (image .entry)) at ⌝ }
 {
     let n = image.len();
     if n < HEAD_BYTES {

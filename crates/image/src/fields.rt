@@ -4,7 +4,7 @@ ghost use Prim.Native.Nat.{_+_, _*_, _^_, _<_, _≤_};
 ghost use lib.ListN.{length};
 ghost use Rattle.image.specs.Bytes.{num};
 ghost use Rattle.image.specs.Layout.{unitBytes, headBytes};
-ghost use Rattle.image.specs.Chain.{nextAt, labelAt, lengthAt, onesAt, endAt, goodFields};
+ghost use Rattle.image.specs.Chain.{kindOf, nextAt, labelAt, lengthAt, onesAt, endAt, goodFields};
 use super::bytes::index_at;
 use super::layout::LABEL_OFFSET;
 use super::layout::LENGTH_OFFSET;
@@ -54,12 +54,12 @@ pub fn ones_at(s: &[u8], at: usize) -> usize
     index_at(s, at + ONES_OFFSET)
 }
 
-// Where it ends.
-pub fn record_end(s: &[u8], at: usize) -> usize
-    requires { ⌜ at + headBytes ≤ length (now s) ⌝ }
-    ensures { λ r. ⌜ r ≡ endAt (now (s .entry)) at ⌝ }
+// Where it ends, in an image.
+pub fn record_end(image: &[u8], at: usize) -> usize
+    requires { ⌜ at + headBytes ≤ length (now image) ⌝ }
+    ensures { λ r. ⌜ r ≡ endAt (kindOf (now (image .entry))) (now (image .entry)) at ⌝ }
 {
-    at + record_size(length_at(s, at))
+    at + record_size(length_at(image, at))
 }
 
 // Whether its label and its length are in range.

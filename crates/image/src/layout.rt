@@ -1,6 +1,7 @@
 // The layout of an image: its constants, and the sizes of a record.
 ghost use mathlib.Core.Path.{_≡_};
 ghost use Prim.Native.Nat.{_^_, _<_, _≤_};
+ghost use Rattle.image.specs.Kinds.{kind1};
 ghost use Rattle.image.specs.Layout.{mostRow, superblocksOf, bitsStart, sizeOf};
 ghost use Rattle.image.specs.Chain.{goodLabel, goodSize};
 use words::BLOCK_BITS;
@@ -10,8 +11,6 @@ use words::MOST_BITS;
 pub const UNIT_BYTES: usize = 16;
 // The longest image, in bytes.
 pub const MOST_BYTES: usize = 1 << 32;
-// The kind of an image.
-pub const KIND: usize = 1;
 // Where the kind stands in the header, after the first index.
 pub const KIND_OFFSET: usize = 4;
 // Where its zeros stand.
@@ -28,14 +27,27 @@ pub const LABEL_OFFSET: usize = 4;
 pub const LENGTH_OFFSET: usize = 8;
 // Where the number of ones stands.
 pub const ONES_OFFSET: usize = 12;
-// The bytes of an entry.
-pub const ENTRY_BYTES: usize = 16;
-// The bits of a superblock: eight blocks.
-pub const SUPERBLOCK_BITS: usize = 4096;
-// The bytes of a superblock's bits.
-pub const SUPERBLOCK_BYTES: usize = SUPERBLOCK_BITS / 8;
 // The bytes of a block's bits.
 pub const BLOCK_BYTES: usize = BLOCK_BITS / 8;
+
+// The one kind of image: its number.
+pub const KIND: usize = 1;
+// The bits of a superblock.
+pub const SUPERBLOCK_BITS: usize = 4096;
+// The bytes of an entry.
+pub const ENTRY_BYTES: usize = 16;
+// The blocks of a superblock.
+pub const SUPERBLOCK_BLOCKS: usize = SUPERBLOCK_BITS / BLOCK_BITS;
+// The last of them, counted from 0.
+pub const LAST_BLOCK: usize = SUPERBLOCK_BLOCKS - 1;
+// The halvings of a search over them.
+pub const BLOCK_HALVINGS: usize = 3;
+// The halvings of a search over the superblocks of the longest row.
+pub const SUPERBLOCK_HALVINGS: usize = 15;
+// The words of a superblock's bits.
+pub const SUPERBLOCK_WORDS: usize = SUPERBLOCK_BITS / 64;
+// Their bytes.
+pub const SUPERBLOCK_BYTES: usize = SUPERBLOCK_BITS / 8;
 
 // Whether an image may have so many bytes.
 pub fn size_good(bytes: usize) -> bool
@@ -60,7 +72,7 @@ pub fn label_good(label: usize) -> bool
 // The superblocks of n bits.
 pub fn superblocks_of(n: usize) -> usize
     requires { ⌜ n < 2 ^ 32 ⌝ }
-    ensures { λ r. ⌜ (r ≡ superblocksOf n) × (r ≤ superblocksOf (2 ^ 32)) ⌝ }
+    ensures { λ r. ⌜ (r ≡ superblocksOf kind1 n) × (r ≤ superblocksOf kind1 (2 ^ 32)) ⌝ }
 {
     (n + (SUPERBLOCK_BITS - 1)) / SUPERBLOCK_BITS
 }
@@ -68,7 +80,7 @@ pub fn superblocks_of(n: usize) -> usize
 // Where the bits start in a record of n bits.
 pub fn bits_start(n: usize) -> usize
     requires { ⌜ n ≤ mostRow ⌝ }
-    ensures { λ r. ⌜ (r ≡ bitsStart n) × (r ≤ bitsStart mostRow) ⌝ }
+    ensures { λ r. ⌜ (r ≡ bitsStart kind1 n) × (r ≤ bitsStart kind1 mostRow) ⌝ }
 {
     HEAD_BYTES + ENTRY_BYTES * superblocks_of(n)
 }
@@ -76,7 +88,7 @@ pub fn bits_start(n: usize) -> usize
 // The size of a record of n bits.
 pub fn record_size(n: usize) -> usize
     requires { ⌜ n < 2 ^ 32 ⌝ }
-    ensures { λ r. ⌜ r ≡ sizeOf n ⌝ }
+    ensures { λ r. ⌜ r ≡ sizeOf kind1 n ⌝ }
 {
     HEAD_BYTES + (ENTRY_BYTES + SUPERBLOCK_BYTES) * superblocks_of(n)
 }

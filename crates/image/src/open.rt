@@ -4,7 +4,7 @@ ghost use Prim.Native.Nat.{_+_, _≤_};
 ghost use lib.ListN.{length};
 ghost use Rattle.words.specs.Refusals.{toldOf};
 ghost use Rattle.image.specs.Layout.{headBytes};
-ghost use Rattle.image.specs.Chain.{endAt};
+ghost use Rattle.image.specs.Chain.{kindOf, endAt};
 ghost use Rattle.image.specs.Rows.{partAt};
 ghost use Rattle.image.specs.Calls.{openTold, openPart, heldLength};
 use super::chain::Scan;
@@ -40,8 +40,8 @@ pub fn open_row(image: &[u8], label: usize) -> Answer
 
 // The part of the image that the record at byte `at` takes.
 pub fn record_part(image: &[u8], at: usize) -> &[u8]
-    requires { ⌜ (at + headBytes ≤ length (now image)) × (endAt (now image) at ≤ length (now image)) ⌝ }
-    ensures { λ r. ⌜ now r ≡ partAt (now (image .entry)) at ⌝ }
+    requires { ⌜ (at + headBytes ≤ length (now image)) × (endAt (kindOf (now image)) (now image) at ≤ length (now image)) ⌝ }
+    ensures { λ r. ⌜ now r ≡ partAt (kindOf (now (image .entry))) (now (image .entry)) at ⌝ }
 {
     let end = record_end(image, at);
     &image[at..end]

@@ -1,6 +1,7 @@
 // An opened row: thin calls over its own part of the image.
 ghost use mathlib.Core.Path.{_≡_};
 ghost use Rattle.words.specs.Refusals.{toldOf};
+ghost use Rattle.image.specs.Kinds.{kind1};
 ghost use Rattle.image.specs.Calls.{openPart, heldLength, partGetTold, PartRanked, PartSelected};
 use super::open::held_length;
 use super::open::row_part;
@@ -33,21 +34,21 @@ impl<'a> Row<'a> {
 
     // look(i): the bit at position i.
     pub fn get(self, i: usize) -> Answer
-        ensures { λ r. ⌜ toldOf r ≡ partGetTold (now (self .entry .part)) (self .entry .length) i ⌝ }
+        ensures { λ r. ⌜ toldOf r ≡ partGetTold kind1 (now (self .entry .part)) (self .entry .length) i ⌝ }
     {
         part_get(self.part, self.length, i)
     }
 
     // count(v, i): how many of the first i bits equal v.
     pub fn rank(self, v: u64, i: usize) -> Answer
-        ensures { λ r. ⌜ PartRanked (now (self .entry .part)) (self .entry .length) v i (toldOf r) ⌝ }
+        ensures { λ r. ⌜ PartRanked kind1 (now (self .entry .part)) (self .entry .length) v i (toldOf r) ⌝ }
     {
         part_rank(self.part, self.length, v, i)
     }
 
     // find(v, k): the position that holds v and has k of v before it.
     pub fn select(self, v: u64, k: usize) -> Answer
-        ensures { λ r. ⌜ PartSelected (now (self .entry .part)) (self .entry .length) v k (toldOf r) ⌝ }
+        ensures { λ r. ⌜ PartSelected kind1 (now (self .entry .part)) (self .entry .length) v k (toldOf r) ⌝ }
     {
         part_select(self.part, self.length, v, k)
     }

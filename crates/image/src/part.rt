@@ -1,6 +1,7 @@
 // The calls on a row's part and a held length: look, count and find.
 ghost use mathlib.Core.Path.{_≡_};
 ghost use Rattle.words.specs.Refusals.{toldOf};
+ghost use Rattle.image.specs.Kinds.{kind1};
 ghost use Rattle.image.specs.Calls.{goodPart, partGetTold, PartRanked, PartSelected};
 use super::fields::fields_good;
 use super::fields::length_at;
@@ -16,7 +17,7 @@ use words::of_value;
 
 // Whether a part is exactly one record with label and length in range, of length n.
 pub fn check_part(part: &[u8], n: usize) -> bool
-    ensures { λ r. ⌜ r ≡ goodPart (now (part .entry)) n ⌝ }
+    ensures { λ r. ⌜ r ≡ goodPart kind1 (now (part .entry)) n ⌝ }
 {
     let bytes = part.len();
     if bytes < HEAD_BYTES {
@@ -34,7 +35,7 @@ pub fn check_part(part: &[u8], n: usize) -> bool
 
 // look(i): the bit at position i.
 pub fn part_get(part: &[u8], n: usize, i: usize) -> Answer
-    ensures { λ r. ⌜ toldOf r ≡ partGetTold (now (part .entry)) n i ⌝ }
+    ensures { λ r. ⌜ toldOf r ≡ partGetTold kind1 (now (part .entry)) n i ⌝ }
 {
     if !check_part(part, n) {
         return Answer::Refused(Refusal::Unsound);
@@ -47,7 +48,7 @@ pub fn part_get(part: &[u8], n: usize, i: usize) -> Answer
 
 // count(v, i): how many of the first i bits equal v.
 pub fn part_rank(part: &[u8], n: usize, v: u64, i: usize) -> Answer
-    ensures { λ r. ⌜ PartRanked (now (part .entry)) n v i (toldOf r) ⌝ }
+    ensures { λ r. ⌜ PartRanked kind1 (now (part .entry)) n v i (toldOf r) ⌝ }
 {
     if !check_part(part, n) {
         return Answer::Refused(Refusal::Unsound);
@@ -67,7 +68,7 @@ pub fn part_rank(part: &[u8], n: usize, v: u64, i: usize) -> Answer
 
 // find(v, k): the position that holds v and has k of v before it.
 pub fn part_select(part: &[u8], n: usize, v: u64, k: usize) -> Answer
-    ensures { λ r. ⌜ PartSelected (now (part .entry)) n v k (toldOf r) ⌝ }
+    ensures { λ r. ⌜ PartSelected kind1 (now (part .entry)) n v k (toldOf r) ⌝ }
 {
     if !check_part(part, n) {
         return Answer::Refused(Refusal::Unsound);

@@ -6,16 +6,21 @@ ghost use lib.Seq.{sets};
 ghost use Rattle.words.specs.Bits.{bit, bitAt};
 ghost use Rattle.words.specs.Handles.{blockBits};
 ghost use Rattle.words.specs.Strip.{cell, stripOf};
-ghost use Rattle.image.specs.Layout.{superblockBits, superblockBytes, blockBytes, entryBytes, mostBytes, mostRow, superblocksOf, recordOf, sizeOf};
-ghost use Rattle.image.specs.Writing.{EntryFits, entryFrom, HalvesOf, superblockCells, wordCells, TargetFits};
+ghost use Rattle.image.specs.Kinds.{kind1};
+ghost use Rattle.image.specs.Entry.{EntryFits, entryFrom, HalvesOf};
+ghost use Rattle.image.specs.Layout.{superblockBytes, blockBytes, mostBytes, mostRow, superblocksOf, entriesBytes, recordOf, sizeOf};
+ghost use Rattle.image.specs.Writing.{superblockCells, wordCells, TargetFits};
 ghost use Rattle.image.specs.Writing.{BitsPut, CountedPut, SuperblockPut, RowPut};
 use super::layout::BLOCK_BYTES;
 use super::layout::ENTRY_BYTES;
 use super::layout::HEAD_BYTES;
 use super::layout::LABEL_OFFSET;
+use super::layout::LAST_BLOCK;
 use super::layout::LENGTH_OFFSET;
 use super::layout::ONES_OFFSET;
+use super::layout::SUPERBLOCK_BLOCKS;
 use super::layout::SUPERBLOCK_BYTES;
+use super::layout::SUPERBLOCK_WORDS;
 use super::layout::bits_start;
 use super::layout::superblocks_of;
 use super::put::put_le;
@@ -104,15 +109,21 @@ fn put_strip_block(bytes: &mut [u8], at: usize, words: &[u64], w: usize, n: usiz
     put_cut_block(bytes, at, words, w, n)
 }
 
-// Stores the bits of superblock e of the first n bits of the words, from byte `at` on. Answers the ones up to the end of each of its eight blocks.
-fn put_superblock(bytes: &mut [u8], at: usize, words: &[u64], n: usize, e: usize) -> [usize; 8]
-    requires { ⌜ (at + superblockBytes ≤ length (now bytes)) × (n ≤ 64 * length (now words)) × (superblockBits * e < mostRow) ⌝ }
-    ensures { λ r. ⌜ CountedPut (superblockCells (stripOf (now (words .entry)) n) e) at (now (bytes .entry)) (now (bytes .exit)) r ⌝ }
+// Stores the bits of superblock e of the first n bits of the words, from byte `at` on. Answers the ones up to the end of each of its blocks.
+fn put_superblock(
+    bytes: &mut [u8],
+    at: usize,
+    words: &[u64],
+    n: usize,
+    e: usize,
+) -> [usize; SUPERBLOCK_BLOCKS]
+    requires { ⌜ (at + superblockBytes kind1 ≤ length (now bytes)) × (n ≤ 64 * length (now words)) × (kind1 .superblockBits * e < mostRow) ⌝ }
+    ensures { λ r. ⌜ CountedPut kind1 (superblockCells kind1 (stripOf (now (words .entry)) n) e) at (now (bytes .entry)) (now (bytes .exit)) r ⌝ }
 {
-    let mut counts = [0usize; 8];
+    let mut counts = [0usize; SUPERBLOCK_BLOCKS];
     let mut sum: usize = 0;
-    for j in 0..8 {
-        let w = 64 * e + 8 * j;
+    for j in 0..SUPERBLOCK_BLOCKS {
+        let w = SUPERBLOCK_WORDS * e + 8 * j;
         sum += put_strip_block(bytes, at + BLOCK_BYTES * j, words, w, n);
         counts[j] = sum;
     }
@@ -127,7 +138,7 @@ pub struct Halves {
 
 // An entry: from bit 0 on the ones before its superblock, from bit 44 on seven counts of 12 bits each, the ones up to the end of each of its blocks but the
 // last. The second count starts at bit 56: the low half has its low 8 bits, where the shift drops the others, and the high half has the others.
-pub fn entry_halves(before: usize, counts: [usize; 8]) -> Halves
+pub fn entry_halves(before: usize, counts: [usize; SUPERBLOCK_BLOCKS]) -> Halves
     requires { ⌜ EntryFits before counts ⌝ }
     ensures { λ r. ⌜ HalvesOf (entryFrom before counts) (r .low) (r .high) ⌝ }
 {
@@ -153,21 +164,21 @@ pub struct Target {
 
 // Writes superblock e of the first n bits of the words: its bits, counted as they are stored, then its entry. Answers the ones up to its end.
 fn write_superblock(image: &mut [u8], to: Target, words: &[u64], n: usize, e: usize) -> usize
-    requires { ⌜ TargetFits to (now image) × (n ≤ 64 * length (now words)) × (superblockBits * e < mostRow) ⌝ }
-    ensures { λ r. ⌜ SuperblockPut (superblockCells (stripOf (now (words .entry)) n) e) to (now (image .entry)) (now (image .exit)) r ⌝ }
+    requires { ⌜ TargetFits kind1 to (now image) × (n ≤ 64 * length (now words)) × (kind1 .superblockBits * e < mostRow) ⌝ }
+    ensures { λ r. ⌜ SuperblockPut kind1 (superblockCells kind1 (stripOf (now (words .entry)) n) e) to (now (image .entry)) (now (image .exit)) r ⌝ }
 {
     let counts = put_superblock(image, to.bits, words, n, e);
     let halves = entry_halves(to.before, counts);
     put_word(image, to.entry, halves.low);
     put_word(image, to.entry + 8, halves.high);
-    to.before + counts[7]
+    to.before + counts[LAST_BLOCK]
 }
 
 // Writes the first n bits of the words, their entries from byte a on and their bits from byte b on. Answers their ones.
 fn write_superblocks(image: &mut [u8], a: usize, b: usize, words: &[u64], n: usize) -> usize
-    requires { ⌜ (b ≡ a + entryBytes * superblocksOf n) × (b + superblockBytes * superblocksOf n ≤ length (now image)) ×
+    requires { ⌜ (b ≡ a + entriesBytes kind1 n) × (b + superblockBytes kind1 * superblocksOf kind1 n ≤ length (now image)) ×
         (n ≤ 64 * length (now words)) × (n ≤ mostRow) ⌝ }
-    ensures { λ r. ⌜ RowPut (cell (stripOf (now (words .entry)) n)) (superblocksOf n) a b (now (image .entry)) (now (image .exit)) r ⌝ }
+    ensures { λ r. ⌜ RowPut kind1 (cell (stripOf (now (words .entry)) n)) (superblocksOf kind1 n) a b (now (image .entry)) (now (image .exit)) r ⌝ }
 {
     let mut sum: usize = 0;
     for e in 0..superblocks_of(n) {
@@ -185,9 +196,9 @@ fn write_superblocks(image: &mut [u8], a: usize, b: usize, words: &[u64], n: usi
 
 // Writes the record of the first n bits of the words, as the last of a chain, from byte `at` on.
 pub fn write_record(image: &mut [u8], at: usize, words: &[u64], n: usize, label: usize)
-    requires { ⌜ (at + sizeOf n ≤ length (now image)) × (n ≤ 64 * length (now words)) × (n ≤ mostRow) × (label < 2 ^ 32) ×
+    requires { ⌜ (at + sizeOf kind1 n ≤ length (now image)) × (n ≤ 64 * length (now words)) × (n ≤ mostRow) × (label < 2 ^ 32) ×
         (length (now image) ≤ mostBytes) ⌝ }
-    ensures { λ _. ⌜ now (image .exit) ≡ sets (now (image .entry)) at (recordOf 0 label (stripOf (now (words .entry)) n)) ⌝ }
+    ensures { λ _. ⌜ now (image .exit) ≡ sets (now (image .entry)) at (recordOf kind1 0 label (stripOf (now (words .entry)) n)) ⌝ }
 {
     let sum = write_superblocks(image, at + HEAD_BYTES, at + bits_start(n), words, n);
     put_le(image, at, 4, 0);

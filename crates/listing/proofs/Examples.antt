@@ -5,8 +5,9 @@ use Prim.Native.Nat.{ℕ}
 use lib.ListN.{take}
 use Rattle.words.specs.Bits.{sumTo, digits, listOf, same}
 use Rattle.image.specs.Bytes.{le}
+use Rattle.image.specs.Kinds.{kind1, kindAmong, isKind}
 use Rattle.image.specs.Layout.{entryOf, entriesFrom, recordOf}
-use Rattle.image.specs.Chain.{soundHeader, soundRecord, among, chainFrom, chainOf}
+use Rattle.image.specs.Chain.{kindOf, soundHeader, soundRecord, among, chainFrom, chainOf}
 use Rattle.image.specs.Calls.{allRight}
 use Rattle.image.specs.Shelf.{recordsFrom, imageOf}
 use Rattle.listing.specs.Text.{digitsIn, decimal, rowsText, textOf}
@@ -18,14 +19,15 @@ decimals = (refl, refl)
 
 -- the image of strip 01010 as label 3
 abbrev example : List ℕ
-example = imageOf (record { label = 3; bits = 0 ∷ 1 ∷ 0 ∷ 1 ∷ 0 ∷ [] } ∷ [])
+example = imageOf kind1 (record { label = 3; bits = 0 ∷ 1 ∷ 0 ∷ 1 ∷ 0 ∷ [] } ∷ [])
 
 -- P12: `3 5 2`
 pub P12-listing : textOf example ≡ 51 ∷ 32 ∷ 53 ∷ 32 ∷ 50 ∷ 10 ∷ []
-unfolding textOf rowsText decimal digitsIn chainOf chainFrom soundHeader soundRecord among digits allRight same recordOf entriesFrom entryOf le sumTo listOf imageOf recordsFrom
+unfolding textOf rowsText decimal digitsIn chainOf chainFrom kindAmong isKind kindOf soundHeader soundRecord among digits allRight same recordOf entriesFrom
+    entryOf le sumTo listOf imageOf recordsFrom
 P12-listing = refl
 
 -- `refused 10` for its first 15 bytes
 pub P12-short : textOf (take 15 example) ≡ 114 ∷ 101 ∷ 102 ∷ 117 ∷ 115 ∷ 101 ∷ 100 ∷ 32 ∷ 49 ∷ 48 ∷ 10 ∷ []
-unfolding textOf decimal digitsIn chainOf soundHeader digits imageOf recordsFrom recordOf entriesFrom entryOf le sumTo listOf
+unfolding textOf decimal digitsIn chainOf kindAmong isKind kindOf soundHeader digits imageOf recordsFrom recordOf entriesFrom entryOf le sumTo listOf
 P12-short = refl

@@ -9,14 +9,14 @@ use Rattle.words.specs.Strip.{cell, rank}
 use Rattle.words.proofs.SearchLaws.{rank-le}
 use Rattle.image.specs.Bytes.{num}
 use Rattle.image.specs.Layout.{unitBytes, mostRow, sizeOf}
-use Rattle.image.specs.Chain.{nextAt, labelAt, lengthAt, onesAt, chainOf}
+use Rattle.image.specs.Chain.{kindOf, nextAt, labelAt, lengthAt, onesAt, chainOf}
 use Rattle.image.specs.Rows.{partAt, rowBits, RightAt, Obeys}
 use Rattle.image.specs.Calls.{recordsIn, recordsOf}
 use Rattle.image.proofs.ChainLaws.{RecordFacts, chain-facts, chain-few}
 use Rattle.image.proofs.WalkLaws.{SoundWalk, Turn, walk-none, walk-turn, walk-done}
 use Rattle.image.proofs.NumberLaws.{num-taken}
 use Rattle.image.proofs.PartLaws.{row-length}
-use Rattle.image.proofs.RightLaws.{right-facts}
+use Rattle.image.proofs.RightLaws.{right-ones}
 use Rattle.listing.specs.Text.{rowLine, rowsText, lineBytes, textBytes}
 use Rattle.listing.specs.Working.{Put}
 use Rattle.listing.proofs.DecimalLaws.{line-most}
@@ -24,19 +24,19 @@ use Rattle.listing.proofs.StoreLaws.{put-none, put-more, put-as}
 
 -- ---- how long a line is
 -- the ones that a line tells are those of the row
-pub row-ones : (s : List ℕ) (a : ℕ) → lengthAt s a ≤ mostRow → RightAt s a
-    → onesAt s a ≡ rank (rowBits (partAt s a) (lengthAt s a)) 1 (lengthAt s a)
+pub row-ones : (s : List ℕ) (a : ℕ) → lengthAt s a ≤ mostRow → RightAt (kindOf s) s a
+    → onesAt s a ≡ rank (rowBits (kindOf s) (partAt (kindOf s) s a) (lengthAt s a)) 1 (lengthAt s a)
 row-ones s a short right =
-    let part : List ℕ = partAt s a in
+    let part : List ℕ = partAt (kindOf s) s a in
     let n : ℕ = lengthAt s a in
-    sym (num-taken s a (sizeOf n) 12 4 (omega arith))
-    ∙ right-facts part n short right .total
-    ∙ ap (rank (rowBits part n) 1) (row-length part n)
+    sym (num-taken s a (sizeOf (kindOf s) n) 12 4 (omega arith))
+    ∙ right-ones (kindOf s) part n short right
+    ∙ ap (rank (rowBits (kindOf s) part n) 1) (row-length (kindOf s) part n)
 
 -- a line has at most so many bytes
-row-most : (s : List ℕ) (a : ℕ) → RecordFacts s a → RightAt s a → length (rowLine s a) ≤ lineBytes
+row-most : (s : List ℕ) (a : ℕ) → RecordFacts (kindOf s) s a → RightAt (kindOf s) s a → length (rowLine s a) ≤ lineBytes
 row-most s a f right =
-    let t : List ℕ = rowBits (partAt s a) (lengthAt s a) in
+    let t : List ℕ = rowBits (kindOf s) (partAt (kindOf s) s a) (lengthAt s a) in
     let ones = row-ones s a (f .short) right in
     let most = rank-le (cell t) 1 (min (lengthAt s a) (length t)) in
     line-most (labelAt s a) (lengthAt s a) (onesAt s a) (f .high) (f .short) (omega (arith, f .short))
@@ -93,7 +93,7 @@ module _ {s out₀ out : List ℕ} {at end : ℕ} (w : RowsPut s out₀ out at e
   turn = walk-turn (w .walk) n
 
   -- it stands at a sound record
-  pub rows-record : RecordFacts s at
+  pub rows-record : RecordFacts (kindOf s) s at
   rows-record = turn .facts
 
   -- there is room for its line

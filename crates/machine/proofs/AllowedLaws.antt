@@ -24,6 +24,7 @@ use Rattle.counters.specs.Tree.{blocksOf, counter, counts, changeCount}
 use Rattle.counters.specs.Record.{StripRecord, packedWords, builtCounters}
 use Rattle.counters.specs.Promises.{Promise, BitPut, PathMoved, Near, AtMost, Below}
 use Rattle.counters.specs.Calls.{checks, heldStrip, rebuilt, pushTable, flipTable}
+use Rattle.image.specs.Chain.{kindOf}
 use Rattle.image.specs.Rows.{rowBits}
 use Rattle.image.specs.Calls.{rowPart, rowLength}
 use Rattle.counters.proofs.AfreshLaws.{words-length, counters-length, counters-at, counter-ext, bitAt-packed}
@@ -213,10 +214,10 @@ module _ (a : StripState) (g : StripGood a) (b : ShelfState) (h : ShelfGood b) w
   shelf-allows clear = exactly _
   shelf-allows (freeze label) = exactly _
   shelf-allows inspect = exactly _
-  shelf-allows (rowRank label v i) = some-by _ _ _ _ _ _ (λ e. count-free 15 (rowBits (rowPart im label) (rowLength im label)) v i)
+  shelf-allows (rowRank label v i) = some-by _ _ _ _ _ _ (λ e. count-free 15 (rowBits (kindOf im) (rowPart im label) (rowLength im label)) v i)
   shelf-allows (rowSelect label v k) =
       some-by _ _ _ _ _ _ (λ e.
-      find-free 15 (rowBits (rowPart im label) (rowLength im label)) (rowLength im label) v k (length-listOf _ (rowLength im label)))
+      find-free 15 (rowBits (kindOf im) (rowPart im label) (rowLength im label)) (rowLength im label) v k (length-listOf _ (rowLength im label)))
   shelf-allows (rowGet label i) = exactly _
 
   -- the machine's own

@@ -15,7 +15,7 @@ use Rattle.image.specs.Layout.{unitBytes}
 use Rattle.image.specs.Chain.{headerOf}
 use Rattle.image.specs.Shelf.{written}
 use Rattle.image.specs.Calls.{clearTable, imageOutcome}
-use Rattle.machine.specs.Machine.{create, clear, Step, accepted, through}
+use Rattle.machine.specs.Machine.{create, clear, Step, accepted, through, shelfKind}
 use Rattle.machine.specs.Unit.{UnitState, unitState, afresh, byCreated, StripActed, ShelfActed, byImage}
 use Rattle.machine.specs.Demand.{Opens, create-first, clear-first, startOf, EveryList, EveryOpening}
 use Rattle.machine.proofs.StateLaws.{Good, opened-good, created-is, cleared-is}
@@ -43,16 +43,16 @@ accepted-create c r y a z = go (judge (checks (handleOf c []) (length (r .words)
 
 -- an accepted clear: its table passed, and it left no row, over the bytes lent
 accepted-clear : (r : StripRecord) (im : List ℕ) (y : Step (List ℕ)) → ShelfActed clear r im y → y .refusal ≡ 0
-    → (judge (clearTable (length im)) ≡ none) × (y .next ≡ written [] im)
+    → (judge (clearTable (length im)) ≡ none) × (y .next ≡ written shelfKind [] im)
 accepted-clear r im y a z = go (judge (clearTable (length im))) refl
   where
-    go : (o : Option ℕ) → judge (clearTable (length im)) ≡ o → (judge (clearTable (length im)) ≡ none) × (y .next ≡ written [] im)
+    go : (o : Option ℕ) → judge (clearTable (length im)) ≡ o → (judge (clearTable (length im)) ≡ none) × (y .next ≡ written shelfKind [] im)
     go none p = (p, ap (λ (q : Step (List ℕ)). q .next) (a ∙ ap byImage (cleared-is im p)))
     go (some n) p =
         absurd
         (numbered (clearTable (length im)) (λ e. omega arith, tt) n p
         (sym (ap (λ (q : Step (List ℕ)). q .refusal)
-        (a ∙ ap (λ (o : Option ℕ). byImage (unless o (λ k. imageOutcome (refused k) im) (imageOutcome (value unitBytes) (headerOf 0 ++ drop unitBytes im)))) p))
+        (a ∙ ap (λ (o : Option ℕ). byImage (unless o (λ k. imageOutcome (refused k) im) (imageOutcome (value unitBytes) (headerOf shelfKind 0 ++ drop unitBytes im)))) p))
         ∙ z))
 
 -- both, in either order: the opened machine is good, and its state laid afresh is what they left
@@ -62,7 +62,7 @@ opened c x _ (create-first y z a p b q) =
     let k = accepted-clear (y .next .strip) (y .next .image) (through (λ u. u .image) z) (b .0) q in
     let passes : judge (clearTable (length (x .image))) ≡ none = ap (λ (im : List ℕ). judge (clearTable (length im))) (sym (a .1)) ∙ k .0 in (
       opened-good c (x .strip .words) (x .strip .counters) (x .image) (l .0) passes,
-      ap₂ (λ (r : StripRecord) (im : List ℕ). unitState r im) (b .1 ∙ l .1) (k .1 ∙ ap (written []) (a .1)),
+      ap₂ (λ (r : StripRecord) (im : List ℕ). unitState r im) (b .1 ∙ l .1) (k .1 ∙ ap (written shelfKind []) (a .1)),
     )
 opened c x _ (clear-first y z a p b q) =
     let k = accepted-clear (x .strip) (x .image) (through (λ u. u .image) y) (a .0) p in

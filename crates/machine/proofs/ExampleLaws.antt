@@ -12,8 +12,9 @@ use Rattle.words.specs.Handles.{allowed, wordsOf}
 use Rattle.counters.specs.Tree.{blocksOf, nodes, height, childBits, childOnes, summary, key, counter, total, counterCount, changeCount, levels}
 use Rattle.counters.specs.Record.{packedWords, builtCounters}
 use Rattle.image.specs.Bytes.{le}
+use Rattle.image.specs.Kinds.{kindAmong, isKind}
 use Rattle.image.specs.Layout.{entryOf, entriesFrom, recordOf}
-use Rattle.image.specs.Chain.{soundHeader, soundRecord, among, chainFrom, chainOf, placeOf, chainEnd, linkOf}
+use Rattle.image.specs.Chain.{kindOf, soundHeader, soundRecord, among, chainFrom, chainOf, placeOf, chainEnd, linkOf}
 use Rattle.image.specs.Calls.{allRight}
 use Rattle.image.specs.Shelf.{recordsFrom, imageOf, sizesOf, rowOf}
 use Rattle.machine.specs.Machine.{ShelfState, freeze, accepted, refuses, withRows, shelfMove, opened}
@@ -56,7 +57,7 @@ row-bytes lent e = ap (λ (l : List ℕ). bytes ++ l) (drop-of-length-le lent {i
 -- the table
 pub proved-table : ProvedTable
 unfolding sumTo nodes height total childBits childOnes summary key counter changeCount levels builtCounters packedWords digits listOf same le
-    entryOf entriesFrom recordOf soundHeader soundRecord among chainFrom chainOf placeOf chainEnd linkOf allRight strip.least
+    entryOf entriesFrom recordOf kindAmong isKind kindOf soundHeader soundRecord among chainFrom chainOf placeOf chainEnd linkOf allRight strip.least
 proved-table =
     record {
       A-reached = reached 512 72 (A .strip) refl refl (bits-of (A .strip) refl) (lit≤ tt);

@@ -14,36 +14,40 @@ use Rattle.words.specs.Calls.{valueLine, belowLine, withinLine, absentLine}
 use Rattle.words.proofs.CheckLaws.{judge-append, passes, absent-found}
 use Rattle.counters.specs.Record.{StripRecord}
 use Rattle.image.specs.Layout.{unitBytes, sizeOf}
-use Rattle.image.specs.Chain.{chainOf, chainEnd}
+use Rattle.image.specs.Chain.{kindOf, chainOf, chainEnd}
 use Rattle.image.specs.Shelf.{Labelled, written, rowOf}
 use Rattle.image.specs.Calls.{isSome, recordsOf, ImageOutcome, imageOutcome, recordWith, clearTable, freezeTable, frozen, freezeOutcome, placeLines, openTable, rowLines, inspectLines, rowLength, rowPart}
 use Rattle.image.specs.Rows.{rowBits}
 use Rattle.image.proofs.RowLaws.{after-lines, table-refused}
 use Rattle.image.proofs.ShelfLaws as W
 use Rattle.image.proofs.InspectLaws.{written-inspected}
-use Rattle.machine.specs.Machine.{StripState, ShelfState, ShelfCall, clear, freeze, inspect, rowRank, rowSelect, rowGet, Step, accepted, refuses, tells, through, handleIn, known, bitsIn, row, sound, shelfEnd, rowTable, withRows, shelfMove}
+use Rattle.machine.specs.Machine.{StripState, ShelfState, ShelfCall, clear, freeze, inspect, rowRank, rowSelect, rowGet, Step, accepted, refuses, tells, through, handleIn, known, bitsIn, row, sound, shelfKind, shelfEnd, rowTable, withRows, shelfMove}
 use Rattle.machine.specs.Unit.{afreshStrip, afreshImage, ShelfActed, byImage}
-use Rattle.machine.proofs.StateLaws.{StripGood, ShelfGood, words-are, strip-is, image-is, sound-is}
+use Rattle.machine.proofs.StateLaws.{shelf-fits, shelf-named, StripGood, ShelfGood, words-are, strip-is, image-is, sound-is}
 use Rattle.machine.proofs.StripStepLaws.{judged-as, told-judged, judged-good, tells-good}
 
 module _ (b : ShelfState) (g : ShelfGood b) where
   abbrev im : List ℕ
   im = afreshImage b
 
+  -- the image has the machine's kind
+  pub kind-is : kindOf im ≡ shelfKind
+  kind-is = W.written-kind shelfKind shelf-fits shelf-named (b .rows) (b .base) (g .rows)
+
   -- ---- the numbers that refusals are judged on
   -- the chain is sound
   pub chain-is : isSome (chainOf im) ≡ sound b
-  chain-is = ap isSome (W.written-chain (b .rows) (b .base) (g .rows)) ∙ sym (sound-is b g)
+  chain-is = ap isSome (W.written-chain shelfKind shelf-fits shelf-named (b .rows) (b .base) (g .rows)) ∙ sym (sound-is b g)
 
   -- a label has a record where it has a row
   known-is : (label : ℕ) → isSome (recordWith im label) ≡ known b label
-  known-is label = W.written-known (b .rows) (b .base) (g .rows) label
+  known-is label = W.written-known shelfKind shelf-fits shelf-named (b .rows) (b .base) (g .rows) label
 
   -- the last record ends where the next would start
-  end-is : chainEnd im (recordsOf im) ≡ shelfEnd b
+  end-is : chainEnd (kindOf im) im (recordsOf im) ≡ shelfEnd b
   end-is =
-      ap (chainEnd im) (W.written-records (b .rows) (b .base) (g .rows))
-      ∙ W.written-end (b .rows) (b .base) (g .rows) ∙ W.length-image (b .rows)
+      ap (chainEnd (kindOf im) im) (W.written-records shelfKind shelf-fits shelf-named (b .rows) (b .base) (g .rows))
+      ∙ W.written-end shelfKind shelf-fits shelf-named (b .rows) (b .base) (g .rows) ∙ W.length-image shelfKind shelf-fits (b .rows)
 
   -- ---- the readings of a row
   -- the opening's table of the machine is that of the call
@@ -69,7 +73,7 @@ module _ (b : ShelfState) (g : ShelfGood b) where
       by v = through afreshImage (unless v (refuses b) (tells b (late (row b label))))
 
       known-row : (r : Labelled) → rowOf label (b .rows) ≡ some r → judge (rowLines (sound b) label (known b label)) ≡ none
-      known-row r d = sym (ap judge (open-table label)) ∙ W.written-gives (b .rows) (b .base) (g .rows) label r d .opens
+      known-row r d = sym (ap judge (open-table label)) ∙ W.written-gives shelfKind shelf-fits shelf-named (b .rows) (b .base) (g .rows) label r d .opens
 
       missing : rowOf label (b .rows) ≡ none → (v : Option ℕ) → judge (rowLines (sound b) label (known b label)) ≡ v
           → tells im o ≡ by (judge (rowTable b label (lines (row b label))))
@@ -96,25 +100,26 @@ module _ (a : StripState) (h : StripGood a) (b : ShelfState) (g : ShelfGood b) w
   clear-step y e =
       let refuse : ℕ → ImageOutcome = (λ n. imageOutcome (refused n) (afreshImage b)) in
       e ∙ ap₂ (λ (n : ℕ) (s : List ℕ). byImage (unless (judge (clearTable n)) refuse (imageOutcome (value unitBytes) s)))
-      (image-is b g) (W.written-none (afreshImage b))
-      ∙ judged-as byImage afreshImage b refuse (imageOutcome (value unitBytes) (written [] (afreshImage b))) _ (judge (clearTable (b .bytes))) (λ n. refl) refl
+      (image-is b g) (W.written-none shelfKind shelf-fits (afreshImage b))
+      ∙ judged-as byImage afreshImage b refuse (imageOutcome (value unitBytes) (written shelfKind [] (afreshImage b))) _ (judge (clearTable (b .bytes)))
+      (λ n. refl) refl
 
   pub clear-good : ShelfGood (shelfMove a b clear .next)
   clear-good =
       judged-good ShelfGood b (judge (clearTable (b .bytes))) _ g (λ p.
-      record { rows = W.good-cleared (b .rows) (b .base) (g .rows); size = image-is b g })
+      record { rows = W.good-cleared shelfKind shelf-fits (b .rows) (b .base) (g .rows); size = image-is b g })
 
   -- ---- freeze
   -- the table of the machine
   abbrev freezeLines : ℕ → List Line
   freezeLines label =
-      stripLines (handleIn a) (a .words) untaken ++ placeLines (sound b) label (known b label) (b .bytes) (shelfEnd b + sizeOf (length (a .strip)))
+      stripLines (handleIn a) (a .words) untaken ++ placeLines (sound b) label (known b label) (b .bytes) (shelfEnd b + sizeOf shelfKind (length (a .strip)))
 
   -- is that of the call
   freeze-table : (label : ℕ) → freezeTable (r .handle) (length (r .words)) (afreshImage b) label ≡ freezeLines label
   freeze-table label = λ i.
       stripLines (handleIn a) (words-are a h i) untaken
-      ++ placeLines (chain-is b g i) label (known-is b g label i) (image-is b g i) (end-is b g i + sizeOf (length (a .strip)))
+      ++ placeLines (chain-is b g i) label (known-is b g label i) (image-is b g i) (end-is b g i + sizeOf (kind-is b g i) (length (a .strip)))
 
   -- F with S appended
   abbrev more : ℕ → List ℕ → List Labelled
@@ -122,13 +127,15 @@ module _ (a : StripState) (h : StripGood a) (b : ShelfState) (g : ShelfGood b) w
 
   -- where it passes
   frozen-as : (label : ℕ) → judge (freezeLines label) ≡ none
-      → W.Good (more label (a .strip)) (b .base)
+      → W.Good shelfKind (more label (a .strip)) (b .base)
       × (freezeOutcome (r .handle) (r .words) (afreshImage b) label
-      ≡ imageOutcome (value (shelfEnd b / unitBytes)) (written (more label (a .strip)) (b .base)))
+      ≡ imageOutcome (value (shelfEnd b / unitBytes)) (written shelfKind (more label (a .strip)) (b .base)))
   frozen-as label p =
-      let f = W.freeze-written (r .handle) (r .words) (b .rows) (b .base) label (g .rows) (ap judge (freeze-table label) ∙ p) in (
-        subst (λ (t : List ℕ). W.Good (more label t) (b .base)) (strip-is a h) (f .0),
-        f .1 ∙ ap₂ (λ (n : ℕ) (t : List ℕ). imageOutcome (value (n / unitBytes)) (written (more label t) (b .base))) (W.length-image (b .rows)) (strip-is a h),
+      let f = W.freeze-written shelfKind shelf-fits shelf-named (r .handle) (r .words) (b .rows) (b .base) label (g .rows) (ap judge (freeze-table label) ∙ p)
+      in (
+        subst (λ (t : List ℕ). W.Good shelfKind (more label t) (b .base)) (strip-is a h) (f .0),
+        f .1 ∙ ap₂ (λ (n : ℕ) (t : List ℕ). imageOutcome (value (n / unitBytes)) (written shelfKind (more label t) (b .base)))
+            (W.length-image shelfKind shelf-fits (b .rows)) (strip-is a h),
       )
 
   pub freeze-step : (label : ℕ) (y : Step (List ℕ)) → ShelfActed (freeze label) r (afreshImage b) y → y ≡ through afreshImage (shelfMove a b (freeze label))
@@ -141,7 +148,7 @@ module _ (a : StripState) (h : StripGood a) (b : ShelfState) (g : ShelfGood b) w
       go (some n) p =
           ap (λ (o : Option ℕ).
           byImage (unless o (λ k. imageOutcome (refused k) (afreshImage b))
-          (imageOutcome (value (chainEnd (afreshImage b) (recordsOf (afreshImage b)) / unitBytes))
+          (imageOutcome (value (chainEnd (kindOf (afreshImage b)) (afreshImage b) (recordsOf (afreshImage b)) / unitBytes))
           (frozen (afreshImage b) label (stripOf (r .words) (length (a .strip)))))))
           (ap judge (freeze-table label) ∙ p)
 
@@ -152,7 +159,7 @@ module _ (a : StripState) (h : StripGood a) (b : ShelfState) (g : ShelfGood b) w
   -- ---- inspect
   pub inspect-step : (y : Step (List ℕ)) → ShelfActed inspect r (afreshImage b) y → y ≡ through afreshImage (shelfMove a b inspect)
   inspect-step y e =
-      e ∙ ap (tells (afreshImage b)) (written-inspected (b .rows) (b .base) (g .rows))
+      e ∙ ap (tells (afreshImage b)) (written-inspected shelfKind shelf-fits shelf-named (b .rows) (b .base) (g .rows))
       ∙ ap (λ (t : Bool). through afreshImage (unless (judge (inspectLines t true)) (refuses b) (accepted b (length (b .rows)) 0))) (sym (sound-is b g))
 
   -- ---- row count
@@ -160,7 +167,7 @@ module _ (a : StripState) (h : StripGood a) (b : ShelfState) (g : ShelfGood b) w
       → y ≡ through afreshImage (shelfMove a b (rowRank label v i))
   rowRank-step label v i y e =
       e .same ∙ row-as b g label (λ t. valueLine v ∷ withinLine (length t) i ∷ []) (λ t. value (strip.rank t v i)) (e .outcome)
-      (λ q d. W.written-gives (b .rows) (b .base) (g .rows) label q d .count v i (e .outcome) (e .holds))
+      (λ q d. W.written-gives shelfKind shelf-fits shelf-named (b .rows) (b .base) (g .rows) label q d .count v i (e .outcome) (e .holds))
       (λ n p. e .holds .early n (table-refused (afreshImage b) label n (valueLine v ∷ withinLine (rowLength (afreshImage b) label) i ∷ []) p))
 
   -- ---- row find
@@ -168,7 +175,7 @@ module _ (a : StripState) (h : StripGood a) (b : ShelfState) (g : ShelfGood b) w
       → y ≡ through afreshImage (shelfMove a b (rowSelect label v k))
   rowSelect-step label v k y e =
       e .same ∙ row-as b g label (λ t. valueLine v ∷ absentLine (length t) k ∷ []) (λ t. found (strip.select t v k)) (e .outcome)
-      (λ q d. W.written-gives (b .rows) (b .base) (g .rows) label q d .find v k (e .outcome) (e .holds)
+      (λ q d. W.written-gives shelfKind shelf-fits shelf-named (b .rows) (b .base) (g .rows) label q d .find v k (e .outcome) (e .holds)
       ∙ sym (absent-found (valueLine v ∷ []) (q .bits) v k))
       (λ n p. e .holds .early n (table-refused (afreshImage b) label n (valueLine v ∷ absentLine (rowLength (afreshImage b) label) k ∷ []) p))
 
@@ -177,9 +184,10 @@ module _ (a : StripState) (h : StripGood a) (b : ShelfState) (g : ShelfGood b) w
       → y ≡ through afreshImage (shelfMove a b (rowGet label i))
   rowGet-step label i y e =
       e ∙ row-as b g label (λ t. belowLine (length t) i ∷ []) (λ t. value (cell t i)) _
-      (λ q d. W.written-gives (b .rows) (b .base) (g .rows) label q d .look i)
+      (λ q d. W.written-gives shelfKind shelf-fits shelf-named (b .rows) (b .base) (g .rows) label q d .look i)
       (λ n p.
-      ap (λ (v : Option ℕ). unless v refused (value (cell (rowBits (rowPart (afreshImage b) label) (rowLength (afreshImage b) label)) i)))
+      ap (λ (v : Option ℕ). unless v refused
+      (value (cell (rowBits (kindOf (afreshImage b)) (rowPart (afreshImage b) label) (rowLength (afreshImage b) label)) i)))
       (table-refused (afreshImage b) label n (belowLine (rowLength (afreshImage b) label) i ∷ []) p))
 
   -- ---- every call

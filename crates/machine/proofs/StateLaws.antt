@@ -24,10 +24,18 @@ use Rattle.image.specs.Layout.{unitBytes, mostBytes}
 use Rattle.image.specs.Chain.{headerOf, goodSize}
 use Rattle.image.specs.Shelf.{written}
 use Rattle.image.specs.Calls.{clearTable, clearOutcome, imageOutcome}
+use Rattle.image.proofs.KindLaws.{KindFits, KindNamed, kind1-fits, kind1-named}
 use Rattle.image.proofs.ShelfLaws as W
-use Rattle.machine.specs.Machine.{StripState, ShelfState, State, handleIn, sound}
+use Rattle.machine.specs.Machine.{StripState, ShelfState, State, handleIn, sound, shelfKind}
 use Rattle.machine.specs.Unit.{afreshImage}
 use Rattle.machine.specs.Demand.{start}
+
+-- ---- what holds of the image's kind
+pub shelf-fits : KindFits shelfKind
+shelf-fits = kind1-fits
+
+pub shelf-named : KindNamed shelfKind
+shelf-named = kind1-named
 
 -- ---- what holds of every state after the opening
 -- the checks pass on the strip half's own numbers, and S is of bits
@@ -37,7 +45,7 @@ pub record StripGood (a : StripState) : Type 0 where
 
 -- the rows of F are good and fit over B, which has the lent length
 pub record ShelfGood (b : ShelfState) : Type 0 where
-  pub rows : W.Good (b .rows) (b .base)
+  pub rows : W.Good shelfKind (b .rows) (b .base)
   pub size : length (b .base) ≡ b .bytes
 
 pub record Good (s : State) : Type 0 where
@@ -91,7 +99,7 @@ module _ (a : StripState) (g : StripGood a) where
 module _ (b : ShelfState) (g : ShelfGood b) where
   -- the image has the lent length
   pub image-is : length (afreshImage b) ≡ b .bytes
-  image-is = W.written-length (b .rows) (b .base) (g .rows) ∙ g .size
+  image-is = W.written-length shelfKind shelf-fits shelf-named (b .rows) (b .base) (g .rows) ∙ g .size
 
   -- which is a good one
   pub sound-is : sound b ≡ true
@@ -106,7 +114,10 @@ opened-good c ws cs im laid cleared =
     let sized : goodSize (length im) ≡ true = not-not (goodSize (length im)) (passes (clearTable (length im)) cleared .0) in
     let least : unitBytes ≤ length im = leb-true _ _ (and-first (leb unitBytes (length im)) (leb (length im) mostBytes) sized) in
     let most : length im ≤ mostBytes = leb-true _ _ (and-second (leb unitBytes (length im)) (leb (length im) mostBytes) sized) in
-    record { strip = record { passes = laid; bits = (λ q. omega arith) }; shelf = record { rows = W.good-none im least most; size = refl } }
+    record {
+      strip = record { passes = laid; bits = (λ q. omega arith) };
+      shelf = record { rows = W.good-none shelfKind shelf-fits im least most; size = refl };
+    }
 
 -- an accepted lay leaves the words and counters of an empty strip
 pub created-is : (c : ℕ) (ws cs : List ℕ) → judge (checks (handleOf c []) (length ws) (length cs)) ≡ none
@@ -116,7 +127,7 @@ created-is c ws cs laid =
     unless v (λ n. outcome (uncreated n) ws cs) (outcome (created (handleOf c []) (counterCount (blocksOf c))) (packedWords c []) (builtCounters c []))) laid
 
 -- an accepted clear leaves no row, over the bytes lent
-pub cleared-is : (im : List ℕ) → judge (clearTable (length im)) ≡ none → clearOutcome im ≡ imageOutcome (value unitBytes) (written [] im)
+pub cleared-is : (im : List ℕ) → judge (clearTable (length im)) ≡ none → clearOutcome im ≡ imageOutcome (value unitBytes) (written shelfKind [] im)
 cleared-is im cleared =
-    ap (λ (v : Option ℕ). unless v (λ n. imageOutcome (refused n) im) (imageOutcome (value unitBytes) (headerOf 0 ++ drop unitBytes im))) cleared
-    ∙ ap (imageOutcome (value unitBytes)) (W.written-none im)
+    ap (λ (v : Option ℕ). unless v (λ n. imageOutcome (refused n) im) (imageOutcome (value unitBytes) (headerOf shelfKind 0 ++ drop unitBytes im))) cleared
+    ∙ ap (imageOutcome (value unitBytes)) (W.written-none shelfKind shelf-fits im)

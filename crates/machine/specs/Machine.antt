@@ -13,6 +13,7 @@ use Rattle.words.specs.Calls.{valueLine, belowLine, withinLine, absentLine, bel
 use Rattle.words.specs.declared.handle.Handle.{Handle}
 use Rattle.counters.specs.Tree.{blocksOf, counterCount, changeCount}
 use Rattle.counters.specs.Calls.{checks, pushTable, flipTable, fillTable, filled, truncateTable, rankTable, selectTable}
+use Rattle.image.specs.Kinds.{Kind, clearKind}
 use Rattle.image.specs.Layout.{unitBytes, sizeOf}
 use Rattle.image.specs.Chain.{goodSize}
 use Rattle.image.specs.Shelf.{Labelled, written, sizesOf, rowOf}
@@ -183,9 +184,13 @@ row b label = bitsIn (rowOf label (b .rows))
 abbrev pub sound : ShelfState → Bool
 sound b = goodSize (b .bytes)
 
+-- the kind of the image, that which clear gives it
+abbrev pub shelfKind : Kind
+shelfKind = clearKind
+
 -- where the next record would start: after 16 bytes and the record sizes of F
 abbrev pub shelfEnd : ShelfState → ℕ
-shelfEnd b = unitBytes + sizesOf (b .rows)
+shelfEnd b = unitBytes + sizesOf shelfKind (b .rows)
 
 -- a row reading by its label: 10; 11; 14; then the lines that its row is judged by
 abbrev pub rowTable : ShelfState → ℕ → List Line → List Line
@@ -198,12 +203,12 @@ withRows b rows base = record { rows = rows; base = base; bytes = b .bytes }
 -- each call on the image; freeze reads the strip half
 abbrev pub shelfMove : StripState → ShelfState → ShelfCall → Step ShelfState
 -- clear replaces B by F written out over B, then empties F
-shelfMove a b clear = judged b (clearTable (b .bytes)) (accepted (withRows b [] (written (b .rows) (b .base))) unitBytes 0)
+shelfMove a b clear = judged b (clearTable (b .bytes)) (accepted (withRows b [] (written shelfKind (b .rows) (b .base))) unitBytes 0)
 -- freeze appends (label, S) to F
 shelfMove a b (freeze label) =
     judged b
     (stripLines (handleIn a) (a .words) untaken
-    ++ placeLines (sound b) label (known b label) (b .bytes) (shelfEnd b + sizeOf (length (a .strip))))
+    ++ placeLines (sound b) label (known b label) (b .bytes) (shelfEnd b + sizeOf shelfKind (length (a .strip))))
     (accepted (withRows b (b .rows ++ (record { label = label; bits = a .strip } ∷ [])) (b .base)) (shelfEnd b / unitBytes) 0)
 -- the other calls on the image change nothing; every row of F is right
 shelfMove a b inspect = judged b (inspectLines (sound b) true) (accepted b (length (b .rows)) 0)

@@ -11,7 +11,7 @@ use Rattle.counters.specs.Calls.{createOutcome, Pushed, Flipped, fillOutcome, t
 use Rattle.image.specs.Shelf.{written}
 use Rattle.image.specs.Calls.{ImageOutcome, clearOutcome, freezeOutcome, inspectTold, rowGetTold, RowRanked, RowSelected}
 use Rattle.machine.specs.declared.dispatch.Reply.{Reply}
-use Rattle.machine.specs.Machine.{StripState, ShelfState, State, StripCall, create, push, flip, fill, truncate, get, rank, select, successor, predecessor, verify, ShelfCall, clear, freeze, inspect, rowRank, rowSelect, rowGet, Call, onStrip, onShelf, Step, accepted, refuses, tells, through}
+use Rattle.machine.specs.Machine.{StripState, ShelfState, State, shelfKind, StripCall, create, push, flip, fill, truncate, get, rank, select, successor, predecessor, verify, ShelfCall, clear, freeze, inspect, rowRank, rowSelect, rowGet, Call, onStrip, onShelf, Step, accepted, refuses, tells, through}
 
 -- the handle in use with the lent words and counters, and the lent image
 pub record UnitState : Type 0 where
@@ -32,7 +32,7 @@ afreshStrip a = builtRecord (a .capacity) (a .strip)
 
 -- F written out over B
 abbrev pub afreshImage : ShelfState → List ℕ
-afreshImage b = written (b .rows) (b .base)
+afreshImage b = written shelfKind (b .rows) (b .base)
 
 abbrev pub afresh : State → UnitState
 afresh s = unitState (afreshStrip (s .strip)) (afreshImage (s .shelf))

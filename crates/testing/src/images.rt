@@ -1,6 +1,7 @@
 // Opening a row, the calls on a row's part, and those on an opened row. A refusal comes as 2^32 plus its number.
 ghost use mathlib.Core.Path.{_≡_};
 ghost use Rattle.words.specs.Refusals.{toldOf, coded as codedOf, CodedAs};
+ghost use Rattle.image.specs.Kinds.{kind1};
 ghost use Rattle.image.specs.Calls.{openTold, openPart, heldLength, partGetTold, PartRanked, PartSelected, rowGetTold, RowRanked, RowSelected};
 use image::Row;
 use image::open_row;
@@ -21,7 +22,7 @@ pub extern "C" fn image_open(image: &[u8], label: u64) -> u64
 // look(i) on a row's part and a held length.
 #[no_mangle]
 pub extern "C" fn image_part_get(part: &[u8], n: u64, i: u64) -> u64
-    ensures { λ r. ⌜ r ≡ codedOf (partGetTold (now (part .entry)) n i) ⌝ }
+    ensures { λ r. ⌜ r ≡ codedOf (partGetTold kind1 (now (part .entry)) n i) ⌝ }
 {
     coded(part_get(part, n as usize, i as usize))
 }
@@ -29,7 +30,7 @@ pub extern "C" fn image_part_get(part: &[u8], n: u64, i: u64) -> u64
 // count(v, i) on a row's part and a held length.
 #[no_mangle]
 pub extern "C" fn image_part_rank(part: &[u8], n: u64, v: u64, i: u64) -> u64
-    ensures { λ r. ⌜ CodedAs (PartRanked (now (part .entry)) n v i) r ⌝ }
+    ensures { λ r. ⌜ CodedAs (PartRanked kind1 (now (part .entry)) n v i) r ⌝ }
 {
     coded(part_rank(part, n as usize, v, i as usize))
 }
@@ -37,28 +38,28 @@ pub extern "C" fn image_part_rank(part: &[u8], n: u64, v: u64, i: u64) -> u64
 // find(v, k) on a row's part and a held length.
 #[no_mangle]
 pub extern "C" fn image_part_select(part: &[u8], n: u64, v: u64, k: u64) -> u64
-    ensures { λ r. ⌜ CodedAs (PartSelected (now (part .entry)) n v k) r ⌝ }
+    ensures { λ r. ⌜ CodedAs (PartSelected kind1 (now (part .entry)) n v k) r ⌝ }
 {
     coded(part_select(part, n as usize, v, k as usize))
 }
 
 // look(i) on an opened row.
 fn opened_get(image: &[u8], label: usize, i: usize) -> Answer
-    ensures { λ r. ⌜ toldOf r ≡ partGetTold (openPart (now (image .entry)) label) (heldLength (openPart (now (image .entry)) label)) i ⌝ }
+    ensures { λ r. ⌜ toldOf r ≡ partGetTold kind1 (openPart (now (image .entry)) label) (heldLength (openPart (now (image .entry)) label)) i ⌝ }
 {
     Row::open(image, label).get(i)
 }
 
 // count(v, i) on an opened row.
 fn opened_rank(image: &[u8], label: usize, v: u64, i: usize) -> Answer
-    ensures { λ r. ⌜ PartRanked (openPart (now (image .entry)) label) (heldLength (openPart (now (image .entry)) label)) v i (toldOf r) ⌝ }
+    ensures { λ r. ⌜ PartRanked kind1 (openPart (now (image .entry)) label) (heldLength (openPart (now (image .entry)) label)) v i (toldOf r) ⌝ }
 {
     Row::open(image, label).rank(v, i)
 }
 
 // find(v, k) on an opened row.
 fn opened_select(image: &[u8], label: usize, v: u64, k: usize) -> Answer
-    ensures { λ r. ⌜ PartSelected (openPart (now (image .entry)) label) (heldLength (openPart (now (image .entry)) label)) v k (toldOf r) ⌝ }
+    ensures { λ r. ⌜ PartSelected kind1 (openPart (now (image .entry)) label) (heldLength (openPart (now (image .entry)) label)) v k (toldOf r) ⌝ }
 {
     Row::open(image, label).select(v, k)
 }

@@ -7,8 +7,11 @@ use lib.ListN.{length}
 use borrow.Author.Needs.{needs}
 use borrow.Author.Tests.{eq-eqb, eqb-true, not-true, not-false}
 use Rattle.words.proofs.BoolLaws.{true-false}
+use Rattle.image.specs.Bytes.{num}
+use Rattle.image.specs.Kinds.{kind1}
 use Rattle.image.specs.Layout.{unitBytes, mostBytes}
 use Rattle.image.specs.Chain.{goodSize}
+use Rattle.image.proofs.KindLaws.{one-number}
 use Rattle.image.proofs.ChainLaws.{size-good, size-facts, tells-header, no-header}
 use Rattle.image.proofs.chain.header_sound.Statement.{statement}
 use Rattle.image.proofs.chain.header_sound.Tie as tie
@@ -30,7 +33,9 @@ index-at-requires : tie.Need-index-at-requires
 index-at-requires c κs = omega (arith, sized c .0)
 
 returns-2 : tie.Need-returns-2
-returns-2 c = no-header (c .before .before .before .before .before .args .image .now) (λ f. omega (arith, f .kinds))
+returns-2 c =
+    let s = c .before .before .before .before .before .args .image .now in
+    no-header s (λ f. omega (arith, eqb-true (num s 4 4) (kind1 .number) (sym (one-number (num s 4 4)) ∙ f .kind)))
 
 u64-at-requires : tie.Need-u64-at-requires
 u64-at-requires c κs = omega (arith, sized (c .before .before) .0)
@@ -38,8 +43,15 @@ u64-at-requires c κs = omega (arith, sized (c .before .before) .0)
 returns-3 : tie.Need-returns-3
 returns-3 c =
     let k = sized (c .before .before .before) in
-    tells-header (c .before .before .before .before .before .before .args .image .now) _
-    (λ t. record { least = k .0; most = k .1; kinds = omega arith; zeros = sym (c .u64-at .ensures .0) ∙ eqb-true (c .u64-at .result) 0 t })
+    let s = c .before .before .before .before .before .before .args .image .now in
+    tells-header s _
+    (λ t.
+    record {
+      least = k .0;
+      most = k .1;
+      kind = one-number (num s 4 4) ∙ eq-eqb (num s 4 4) (kind1 .number) (omega arith);
+      zeros = sym (c .u64-at .ensures .0) ∙ eqb-true (c .u64-at .result) 0 t;
+    })
     (λ f. eq-eqb (c .u64-at .result) 0 (c .u64-at .ensures .0 ∙ f .zeros))
 
 pub header-sound-spec : {M : Type 1} → statement M

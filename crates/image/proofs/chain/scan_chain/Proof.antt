@@ -8,7 +8,7 @@ use borrow.Author.Needs.{needs}
 use borrow.Author.Tests.{not-true, not-false, eq-eqb, ne-eqb}
 use lib.ListN.{length}
 use lib.Dec.{eqb}
-use Rattle.image.specs.Chain.{soundHeader, soundRecord}
+use Rattle.image.specs.Chain.{kindOf, soundHeader, soundRecord}
 use Rattle.image.proofs.ChainLaws.{header-facts, RecordFacts, record-facts, chain-unsound}
 use Rattle.image.proofs.WalkLaws.{Scanned, scanned-none, scanned-unsound, scanned-again, scanned-more, scan-unsound, scanned-done, left, left-less}
 use Rattle.image.proofs.chain.scan_chain.Statement.{statement}
@@ -26,12 +26,16 @@ headed c = sym (c .before .header-sound .ensures) ∙ not-false _ (c .if1 .left)
 
 -- the record that a turn stands at is sound
 sound : (c : tie.Else2 Inv-loop μ-loop)
-    → let l = c .before .before .before in soundRecord (l .before .before .before .before .before .args .image .now) (l .loop .at) ≡ true
+    → let l = c .before .before .before in
+    let s = l .before .before .before .before .before .args .image .now in
+    soundRecord (kindOf s) s (l .loop .at) ≡ true
 sound c = sym (c .before .record-sound .ensures) ∙ not-false _ (c .if2 .left)
 
 known : (c : tie.Else2 Inv-loop μ-loop)
-    → let l = c .before .before .before in RecordFacts (l .before .before .before .before .before .args .image .now) (l .loop .at)
-known c = record-facts _ _ (sound c)
+    → let l = c .before .before .before in
+    let s = l .before .before .before .before .before .args .image .now in
+    RecordFacts (kindOf s) s (l .loop .at)
+known c = record-facts _ _ _ (sound c)
 
 -- where the label was met, after the branch
 spot : (c : tie.Joined4 Inv-loop μ-loop)

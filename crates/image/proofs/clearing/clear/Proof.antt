@@ -7,6 +7,7 @@ use native.Mathlib.Omega.{arith}
 use lib.ListN.{length}
 use borrow.Author.Tests.{not-true, not-false}
 use Rattle.words.specs.Refusals.{value}
+use Rattle.image.specs.Kinds.{kind1}
 use Rattle.image.specs.Layout.{unitBytes}
 use Rattle.image.specs.Chain.{goodSize}
 use Rattle.image.specs.Calls.{imageOutcome}
@@ -50,7 +51,7 @@ returns-2 c =
     let p1 = p2 .before .before .before .before in
     let i = p1 .before .before in
     ap (λ (l : List ℕ). imageOutcome (value unitBytes) l)
-    (header-stored (i .before .before .before .args .image .now) (p1 .put-le .last .0) (p2 .put-le2 .last .0) (w .put-word .last .0) 0
+    (header-stored kind1 (i .before .before .before .args .image .now) (p1 .put-le .last .0) (p2 .put-le2 .last .0) (w .put-word .last .0) 0
     (room i) (p1 .put-le .ensures) (p2 .put-le2 .ensures) (w .put-word .ensures))
     ∙ sym (simp (sized i))
 

@@ -1,9 +1,12 @@
 -- `image::freezing::check_freeze` meets its contract. Assumes nothing.
-use mathlib.Core.Path.{ap, _∙_}
+use mathlib.Core.Path.{sym, ap, _∙_}
 use native.Mathlib.Omega.{arith}
 use Rattle.words.specs.Handles.{untaken, stripLines}
 use Rattle.words.proofs.CheckLaws.{Checked, checked, judged-pass}
+use Rattle.image.specs.Kinds.{Kind}
+use Rattle.image.specs.Layout.{sizeOf}
 use Rattle.image.specs.Writing.{newPlace}
+use Rattle.image.proofs.KindLaws.{one-kind}
 use Rattle.image.proofs.FreezeLaws.{freeze-early, freeze-late}
 use borrow.Author.Needs.{needs}
 use Rattle.image.proofs.freezing.check_freeze.Statement.{statement}
@@ -41,7 +44,7 @@ returns-2 : tie.Need-returns-2
 returns-2 c =
     let a = c .before .before .before .before .before .before .args in
     c .new-place .ensures
-    ∙ ap (newPlace (a .image .now) (a .label)) (c .before .record-size .ensures)
+    ∙ ap (newPlace (a .image .now) (a .label)) (c .before .record-size .ensures ∙ ap (λ (K : Kind). sizeOf K (a .h .length)) (sym (one-kind (a .image .now))))
     ∙ freeze-late (a .h) (a .words) (a .image .now) (a .label) (c .before .before .before .before .check-strip .result)
     (c .before .before .before .before .check-strip .ensures) (c .before .before .enum-told .given .1)
 

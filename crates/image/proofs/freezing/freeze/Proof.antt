@@ -1,11 +1,16 @@
 -- `image::freezing::freeze` meets its contract. Assumes nothing.
-use mathlib.Core.Path.{_≡_}
+use mathlib.Core.Path.{_≡_, sym, ap, _∙_}
 use mathlib.Core.Option.{none}
 use native.Mathlib.Omega.{arith}
 use lib.ListN.{length}
+use lib.Seq.{sets}
+use Rattle.words.specs.Strip.{stripOf}
 use Rattle.words.specs.Refusals.{judge}
-use Rattle.image.specs.Chain.{linkOf, chainEnd}
+use Rattle.image.specs.Kinds.{Kind}
+use Rattle.image.specs.Layout.{sizeOf, recordOf}
+use Rattle.image.specs.Chain.{kindOf, linkOf, chainEnd}
 use Rattle.image.specs.Calls.{recordsOf, freezeTable}
+use Rattle.image.proofs.KindLaws.{one-kind}
 use Rattle.image.proofs.FreezeLaws.{Freezing, freezing, placed-at, freeze-refused, freeze-done}
 use borrow.Author.Needs.{needs}
 use Rattle.image.proofs.freezing.freeze.Statement.{statement}
@@ -22,9 +27,10 @@ enum-known-link c = search needs
 
 -- what a place that is given says
 known : (c : tie.After-known-told2)
-    → (judge (freezeTable (c .before .before .before .before .before .before .before .args .h) (length (c .before .before .before .before .before .before .before .args .words .now)) (c .before .before .before .before .before .before .before .args .image .now) (c .before .before .before .before .before .before .before .args .label)) ≡ none)
-    × (c .before .link .given .0 .0 ≡ linkOf (recordsOf (c .before .before .before .before .before .before .before .args .image .now)))
-    × (c .before .link .given .0 .1 .0 ≡ chainEnd (c .before .before .before .before .before .before .before .args .image .now) (recordsOf (c .before .before .before .before .before .before .before .args .image .now)))
+    → let a = c .before .before .before .before .before .before .before .args in
+    let s = a .image .now in
+    (judge (freezeTable (a .h) (length (a .words .now)) s (a .label)) ≡ none) × (c .before .link .given .0 .0 ≡ linkOf (recordsOf s))
+    × (c .before .link .given .0 .1 .0 ≡ chainEnd (kindOf s) s (recordsOf s))
 known c =
     let a = c .before .before .before .before .before .before .before .args in
     placed-at (a .h) (length (a .words .now)) (a .image .now) (a .label) (c .before .before .before .check-freeze .result) _ _
@@ -32,7 +38,7 @@ known c =
 
 -- and what follows
 facts : (c : tie.After-known-told2)
-    → Freezing (c .before .before .before .before .before .before .before .args .h) (length (c .before .before .before .before .before .before .before .args .words .now)) (c .before .before .before .before .before .before .before .args .image .now) (c .before .before .before .before .before .before .before .args .label)
+    → let a = c .before .before .before .before .before .before .before .args in Freezing (a .h) (length (a .words .now)) (a .image .now) (a .label)
 facts c = freezing _ _ _ _ (known c .0)
 
 put-le-requires : tie.Need-put-le-requires
@@ -43,10 +49,11 @@ put-le-requires c κs =
 
 write-record-requires : tie.Need-write-record-requires
 write-record-requires c κs =
+    let a = c .before .before .before .before .before .before .before .before .before .before .before .before .args in
     let k = known (c .before .before .before .before .before) in
     let f = facts (c .before .before .before .before .before) in
     let n : length (c .before .before .before .put-le .last .0) ≡ length (c .before .before .before .before .before .before .before .before .before .before .before .before .args .image .now) = c .before .before .before .put-le .kept .0 in (
-      omega (arith, n, k .2, f .room),
+      omega (arith, n, k .2, f .room, ap (λ (K : Kind). sizeOf K (a .h .length)) (one-kind (a .image .now))),
       omega (arith, f .strip .count, f .strip .long, f .strip .step),
       omega (arith, f .strip .long, f .strip .most),
       omega (arith, f .high),
@@ -71,7 +78,11 @@ returns-2 c =
     let a = p .before .before .before .before .before .before .before .args in
     let k = known p in
     freeze-done (a .h) (a .words .now) (a .image .now) (a .label) _ _ (c .before .before .before .before .before .before .put-le .last .0) (c .before .before .write-record .last .0) (k .0) (k .1) (k .2)
-    (c .before .before .before .before .before .before .put-le .ensures) (c .before .before .write-record .ensures)
+    (c .before .before .before .before .before .before .put-le .ensures)
+    (c .before .before .write-record .ensures
+    ∙ ap (λ (K : Kind). sets (c .before .before .before .before .before .before .put-le .last .0) (p .before .link .given .0 .1 .0)
+    (recordOf K 0 (a .label) (stripOf (a .words .now) (a .h .length))))
+    (sym (one-kind (a .image .now))))
 
 pub freeze-spec : {M : Type 1} → statement M
 freeze-spec =

@@ -4,6 +4,9 @@ use mathlib.Core.Path.{_≡_, sym, _∙_}
 use native.Mathlib.Omega.{arith}
 use borrow.Author.Tests.{not-true, not-false}
 use lib.ListN.{length}
+use Rattle.image.specs.Kinds.{kind1}
+use Rattle.image.specs.Chain.{kindOf}
+use Rattle.image.proofs.KindLaws.{one-kind}
 use Rattle.image.proofs.ChainLaws.{RecordFacts, chain-facts, some-in}
 use Rattle.image.proofs.WalkLaws.{left, left-less}
 use Rattle.image.proofs.RowLaws.{part-room}
@@ -18,7 +21,7 @@ abbrev μ-loop : tie.MeasureT-loop
 μ-loop image at₀ count₀ at count = left (length image) at
 
 -- the record that a turn stands at
-known : (c : tie.In-loop Inv-loop μ-loop) → RecordFacts (c .before .before .before .before .args .image .now) (c .before .loop .at)
+known : (c : tie.In-loop Inv-loop μ-loop) → let s = c .before .before .before .before .args .image .now in RecordFacts (kindOf s) s (c .before .loop .at)
 known c = inspected-record (c .before .loop .inv) (c .loop-test .taken)
 
 first-record-requires : tie.Need-first-record-requires Inv-loop μ-loop
@@ -31,18 +34,18 @@ record-part-requires : tie.Need-record-part-requires Inv-loop μ-loop
 record-part-requires c κs = (known c .room, known c .inside)
 
 length-at-requires : tie.Need-length-at-requires Inv-loop μ-loop
-length-at-requires c κs = part-room _ _ (known (c .before)) _ (c .record-part .ensures)
+length-at-requires c κs = part-room _ _ _ (known (c .before)) _ (c .record-part .ensures)
 
 part-right-requires : tie.Need-part-right-requires Inv-loop μ-loop
 part-right-requires c κs =
-    read-good _ _ _ _ (known (c .before .before)) (c .before .record-part .ensures) (c .length-at .ensures .0)
+    read-good kind1 _ _ _ _ (one-kind _) (known (c .before .before)) (c .before .record-part .ensures) (c .length-at .ensures .0)
 
 -- whether its row is right
 judged : (c : tie.After-part-right Inv-loop μ-loop)
     → c .part-right .result ≡ rowTest (c .before .before .before .before .before .before .before .args .image .now) (c .before .before .before .before .loop .at)
 judged c =
     c .part-right .ensures
-    ∙ read-right _ _ _ _ (known (c .before .before .before)) (c .before .before .record-part .ensures) (c .before .length-at .ensures .0)
+    ∙ read-right kind1 _ _ _ _ (one-kind _) (known (c .before .before .before)) (c .before .before .record-part .ensures) (c .before .length-at .ensures .0)
 
 returns : tie.Need-returns Inv-loop μ-loop
 returns c =

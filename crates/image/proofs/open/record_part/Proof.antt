@@ -1,6 +1,6 @@
 -- `image::open::record_part` meets its contract. Assumes nothing.
 use Rattle.image.specs.Layout.{sizeOf}
-use Rattle.image.specs.Chain.{lengthAt}
+use Rattle.image.specs.Chain.{kindOf, lengthAt}
 use Rattle.image.proofs.ChainLaws.{part-taken}
 use borrow.Author.Needs.{needs}
 use Rattle.image.proofs.open.record_part.Statement.{statement}
@@ -21,7 +21,8 @@ part-result-end c = search needs
 returns : tie.Need-returns
 returns c =
     let a = c .before .before .before .args in
-    part-taken (a .image .now) (a .at) (c .before .record-end .result) (sizeOf (lengthAt (a .image .now) (a .at))) (c .before .record-end .ensures)
+    part-taken (a .image .now) (a .at) (c .before .record-end .result) (sizeOf (kindOf (a .image .now)) (lengthAt (a .image .now) (a .at)))
+    (c .before .record-end .ensures)
 
 pub record-part-spec : {M : Type 1} → statement M
 record-part-spec =

@@ -6,6 +6,7 @@ use borrow.Author.Tests.{lt-leb, le-leb, ne-eqb, eq-eqb, not-true, not-false}
 use lib.Dec.{eqb}
 use lib.ListN.{length}
 use borrow.Author.Needs.{needs}
+use Rattle.image.specs.Kinds.{kind1}
 use Rattle.image.specs.Layout.{headBytes, sizeOf}
 use Rattle.image.specs.Chain.{lengthAt, goodFields}
 use Rattle.image.specs.Calls.{goodPart}
@@ -45,7 +46,7 @@ returns-3 c =
     simp (
       le-leb headBytes (length s) (omega arith),
       e,
-      ne-eqb (length s) (sizeOf (lengthAt s 0)) (λ q. c .if3 .taken (q ∙ sym (c .before .record-size .ensures ∙ ap sizeOf f))),
+      ne-eqb (length s) (sizeOf kind1 (lengthAt s 0)) (λ q. c .if3 .taken (q ∙ sym (c .before .record-size .ensures ∙ ap (sizeOf kind1) f))),
     )
 
 returns-4 : tie.Need-returns-4
@@ -58,7 +59,7 @@ returns-4 c =
     simp (
       le-leb headBytes (length s) (omega arith),
       e,
-      eq-eqb (length s) (sizeOf (lengthAt s 0)) (c .if3 .left ∙ c .before .record-size .ensures ∙ ap sizeOf f),
+      eq-eqb (length s) (sizeOf kind1 (lengthAt s 0)) (c .if3 .left ∙ c .before .record-size .ensures ∙ ap (sizeOf kind1) f),
     )
     (ap (eqb (a .n)) f)
 

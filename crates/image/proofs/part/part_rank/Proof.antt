@@ -11,6 +11,7 @@ use Rattle.words.specs.Calls.{valueLine, withinLine}
 use Rattle.words.specs.declared.refusal.Refusal.the-variants.{Unsound, BadValue, Position}
 use Rattle.words.specs.declared.refusal.Verdict.the-variants.{Refuse}
 use Rattle.counters.proofs.PromiseLaws.{promise-refused}
+use Rattle.image.specs.Kinds.{kind1}
 use Rattle.image.specs.Calls.{goodPart, partLine}
 use Rattle.image.proofs.PartLaws.{good-part, rank-done, rank-wrong}
 use Rattle.image.proofs.part.part_rank.Statement.{statement}
@@ -21,16 +22,16 @@ check-part-requires c κs = search needs
 
 -- the call's table
 abbrev table : List ℕ → ℕ → ℕ → ℕ → List Line
-table part n v i = partLine part n ∷ valueLine v ∷ withinLine n i ∷ []
+table part n v i = partLine kind1 part n ∷ valueLine v ∷ withinLine n i ∷ []
 
 returns : tie.Need-returns
 returns c =
     let a = c .before .before .before .args in
-    let bad : goodPart (a .part .now) (a .n) ≡ false = sym (c .before .check-part .ensures) ∙ not-true _ (c .if1 .taken) in
+    let bad : goodPart kind1 (a .part .now) (a .n) ≡ false = sym (c .before .check-part .ensures) ∙ not-true _ (c .if1 .taken) in
     promise-refused (table (a .part .now) (a .n) (a .v) (a .i)) refused _ _ _ (Refuse Unsound) Unsound (simp bad) refl
 
 -- the part is good
-good : (c : tie.Else1) → goodPart (c .before .before .before .args .part .now) (c .before .before .before .args .n) ≡ true
+good : (c : tie.Else1) → goodPart kind1 (c .before .before .before .args .part .now) (c .before .before .before .args .n) ≡ true
 good c = sym (c .before .check-part .ensures) ∙ not-false _ (c .if1 .left)
 
 returns-2 : tie.Need-returns-2
@@ -48,7 +49,7 @@ returns-3 c =
 part-ones-before-requires : tie.Need-part-ones-before-requires
 part-ones-before-requires c κs =
     let a = c .before .before .before .before .before .args in
-    let k = good-part (a .part .now) (a .n) (good (c .before .before)) in
+    let k = good-part kind1 (a .part .now) (a .n) (good (c .before .before)) in
     (k .1, k .2, c .if3 .left)
 
 -- the table passes
@@ -62,7 +63,8 @@ returns-4 c =
     let e = c .before .before in
     let a = e .before .before .before .before .before .args in
     let counted = c .before .part-ones-before in
-    rank-wrong (table (a .part .now) (a .n) (a .v) (a .i)) (a .part .now) (a .n) (a .v) (a .i) (counted .result) (passed e) (e .before .if2 .left) (e .if3 .left)
+    rank-wrong kind1 (table (a .part .now) (a .n) (a .v) (a .i)) (a .part .now) (a .n) (a .v) (a .i) (counted .result) (passed e) (e .before .if2 .left)
+    (e .if3 .left)
     (counted .ensures .1) (c .if4 .taken)
 
 of-value-requires : tie.Need-of-value-requires
@@ -73,7 +75,8 @@ returns-5 c =
     let e = c .before .before .before in
     let a = e .before .before .before .before .before .args in
     let counted = c .before .before .part-ones-before in
-    rank-done (table (a .part .now) (a .n) (a .v) (a .i)) (a .part .now) (a .n) (a .v) (a .i) (counted .result) (passed e) (e .before .if2 .left) (e .if3 .left)
+    rank-done kind1 (table (a .part .now) (a .n) (a .v) (a .i)) (a .part .now) (a .n) (a .v) (a .i) (counted .result) (passed e) (e .before .if2 .left)
+    (e .if3 .left)
     (counted .ensures .1) (c .of-value .result) (c .before .if4 .left) (c .of-value .ensures)
 
 pub part-rank-spec : {M : Type 1} → statement M

@@ -13,6 +13,7 @@ use Rattle.words.specs.Calls.{valueLine, absentLine}
 use Rattle.words.specs.declared.refusal.Refusal.the-variants.{Unsound, BadValue, NotFound}
 use Rattle.words.specs.declared.refusal.Verdict.the-variants.{Refuse}
 use Rattle.counters.proofs.PromiseLaws.{promise-refused}
+use Rattle.image.specs.Kinds.{kind1}
 use Rattle.image.specs.Layout.{headBytes, mostRow, sizeOf}
 use Rattle.image.specs.Calls.{goodPart, partLine}
 use Rattle.image.proofs.PartLaws.{good-part, select-over, select-absent, select-done, select-past}
@@ -24,16 +25,16 @@ check-part-requires c κs = search needs
 
 -- the call's table
 abbrev table : List ℕ → ℕ → ℕ → ℕ → List Line
-table part n v k = partLine part n ∷ valueLine v ∷ absentLine n k ∷ []
+table part n v k = partLine kind1 part n ∷ valueLine v ∷ absentLine n k ∷ []
 
 returns : tie.Need-returns
 returns c =
     let a = c .before .before .before .args in
-    let bad : goodPart (a .part .now) (a .n) ≡ false = sym (c .before .check-part .ensures) ∙ not-true _ (c .if1 .taken) in
+    let bad : goodPart kind1 (a .part .now) (a .n) ≡ false = sym (c .before .check-part .ensures) ∙ not-true _ (c .if1 .taken) in
     promise-refused (table (a .part .now) (a .n) (a .v) (a .k)) refused _ _ _ (Refuse Unsound) Unsound (simp bad) refl
 
 -- the part is good
-good : (c : tie.Else1) → goodPart (c .before .before .before .args .part .now) (c .before .before .before .args .n) ≡ true
+good : (c : tie.Else1) → goodPart kind1 (c .before .before .before .args .part .now) (c .before .before .before .args .n) ≡ true
 good c = sym (c .before .check-part .ensures) ∙ not-false _ (c .if1 .left)
 
 returns-2 : tie.Need-returns-2
@@ -50,8 +51,8 @@ returns-3 c =
 
 -- what the check leaves
 known : (c : tie.Else3) → let a = c .before .before .before .before .before .args in
-    (headBytes ≤ length (a .part .now)) × (length (a .part .now) ≡ sizeOf (a .n)) × (a .n ≤ mostRow)
-known c = let a = c .before .before .before .before .before .args in good-part (a .part .now) (a .n) (good (c .before .before))
+    (headBytes ≤ length (a .part .now)) × (length (a .part .now) ≡ sizeOf kind1 (a .n)) × (a .n ≤ mostRow)
+known c = let a = c .before .before .before .before .before .args in good-part kind1 (a .part .now) (a .n) (good (c .before .before))
 
 -- the table passes
 passed : (c : tie.Else3) → let a = c .before .before .before .before .before .args in judge (table (a .part .now) (a .n) (a .v) (a .k)) ≡ none
@@ -67,7 +68,7 @@ returns-4 c =
     let e = c .before .before in
     let a = e .before .before .before .before .before .args in
     let total = c .before .ones-at in
-    select-over (table (a .part .now) (a .n) (a .v) (a .k)) (a .part .now) (a .n) (a .v) (a .k) (total .result) (passed e) (e .before .if2 .left)
+    select-over kind1 (table (a .part .now) (a .n) (a .v) (a .k)) (a .part .now) (a .n) (a .v) (a .k) (total .result) (passed e) (e .before .if2 .left)
     (known e .2) (total .ensures .0) (c .if4 .taken)
 
 of-value-requires : tie.Need-of-value-requires
@@ -78,7 +79,7 @@ returns-5 c =
     let e = c .before .before .before .before in
     let a = e .before .before .before .before .before .args in
     let total = c .before .before .before .ones-at in
-    select-absent (table (a .part .now) (a .n) (a .v) (a .k)) (a .part .now) (a .n) (a .v) (a .k) (total .result) (passed e) (e .before .if2 .left)
+    select-absent kind1 (table (a .part .now) (a .n) (a .v) (a .k)) (a .part .now) (a .n) (a .v) (a .k) (total .result) (passed e) (e .before .if2 .left)
     (known e .2) (total .ensures .0)
     (omega (arith, c .before .of-value .ensures, c .if5 .taken))
 
@@ -93,7 +94,7 @@ returns-6 c =
     let a = e .before .before .before .before .before .args in
     let total = c .before .before .before .before .before .ones-at in
     let place = c .before .part-position in
-    select-done (table (a .part .now) (a .n) (a .v) (a .k)) (a .part .now) (a .n) (a .v) (a .k) (total .result) (passed e) (e .before .if2 .left)
+    select-done kind1 (table (a .part .now) (a .n) (a .v) (a .k)) (a .part .now) (a .n) (a .v) (a .k) (total .result) (passed e) (e .before .if2 .left)
     (known e .2) (total .ensures .0) (place .result)
     (omega (arith, c .before .before .before .of-value .ensures, c .before .before .if5 .left)) (place .ensures .1) (c .if6 .taken)
 
@@ -103,7 +104,7 @@ returns-7 c =
     let a = e .before .before .before .before .before .args in
     let total = c .before .before .before .before .before .ones-at in
     let place = c .before .part-position in
-    select-past (table (a .part .now) (a .n) (a .v) (a .k)) (a .part .now) (a .n) (a .v) (a .k) (total .result) (passed e) (e .before .if2 .left)
+    select-past kind1 (table (a .part .now) (a .n) (a .v) (a .k)) (a .part .now) (a .n) (a .v) (a .k) (total .result) (passed e) (e .before .if2 .left)
     (known e .2) (total .ensures .0) (place .result)
     (omega (arith, c .before .before .before .of-value .ensures, c .before .before .if5 .left)) (place .ensures .1) (c .if6 .left)
 

@@ -2,6 +2,7 @@
 -- Assumes nothing.
 use native.Mathlib.Omega.{arith}
 use lib.ListN.{length}
+use Rattle.image.specs.Chain.{kindOf}
 use Rattle.image.proofs.ChainLaws.{RecordFacts, chain-facts, some-in}
 use Rattle.image.proofs.WalkLaws.{left, left-less}
 use Rattle.image.proofs.QueryLaws.{Nearing, nearing-none, nearing-record, nearing-here, nearing-more, nearing-done}
@@ -15,7 +16,7 @@ abbrev μ-loop : tie.MeasureT-loop
 μ-loop image k at₀ left₀ at rows = left (length image) at
 
 -- the record that a turn stands at
-known : (c : tie.In-loop Inv-loop μ-loop) → RecordFacts (c .before .before .before .before .args .image .now) (c .before .loop .at)
+known : (c : tie.In-loop Inv-loop μ-loop) → let s = c .before .before .before .before .args .image .now in RecordFacts (kindOf s) s (c .before .loop .at)
 known c = nearing-record (c .before .loop .inv) (c .loop-test .taken)
 
 first-record-requires : tie.Need-first-record-requires Inv-loop μ-loop

@@ -3,7 +3,7 @@ use mathlib.Core.Path.{_≡_, sym, subst}
 use Prim.Native.Nat.{ℕ, _+_, _*_, _^_, _<_}
 use native.Mathlib.Omega.{arith}
 use borrow.Author.Needs.{needs}
-use Rattle.image.specs.Reading.{blockField}
+use Rattle.image.specs.Entry.{blockField}
 use Rattle.image.proofs.EntryLaws.{block-lt, word-lt, field-low, field-high}
 use Rattle.image.proofs.reading.block_field.Statement.{statement}
 use Rattle.image.proofs.reading.block_field.Tie as tie

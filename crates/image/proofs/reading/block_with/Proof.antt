@@ -1,10 +1,11 @@
 -- `image::reading::block_with` meets its contract. The invariant: the k-th v lies in the 2^t blocks from lo on, as the entries say. Assumes nothing.
 use mathlib.Core.Path.{_≡_, subst}
-use Prim.Native.Nat.{ℕ, _+_, _-_, _*_, _%_, _^_, _≤_, _<_}
+use Prim.Native.Nat.{ℕ, _+_, _-_, _*_, _/_, _%_, _^_, _≤_, _<_}
 use native.Mathlib.Omega.{arith}
 use lib.Pow.{pow-mono}
 use Rattle.words.proofs.BitLaws.{one-shl}
-use Rattle.image.specs.Reading.{entryValues, Halved}
+use Rattle.image.specs.Entry.{entryValues}
+use Rattle.image.specs.Reading.{Halved}
 use Rattle.image.proofs.PartLaws.{halved-short, halved-step, halved-blocks}
 use Rattle.image.proofs.reading.block_with.Statement.{statement}
 use Rattle.image.proofs.reading.block_with.Tie as tie
@@ -27,8 +28,12 @@ mul-lo c = omega arith
 loop-holds : tie.Need-loop-holds Inv-loop μ-loop
 loop-holds c =
     let a = c .before .before .args in
-    let b = c .superblock-with in
-    (omega arith, omega arith, halved-blocks (entryValues (a .part .now) (a .v)) (a .count) (a .k) (b .result) (b .ensures .1))
+    let b = c .superblock-with in (
+      omega arith,
+      omega arith,
+      halved-blocks (entryValues (a .part .now) (a .v)) 8 ((a .count + 7) / 8) (a .count) (a .k) (b .result) (omega arith)
+          (b .ensures .1),
+    )
 
 sub-t : tie.Need-sub-t Inv-loop μ-loop
 sub-t c = omega arith

@@ -2,7 +2,7 @@
 use mathlib.Core.Path.{_≡_, sym, subst}
 use Prim.Native.Nat.{ℕ, _+_, _%_, _^_, _<_}
 use borrow.Author.Needs.{needs}
-use Rattle.image.specs.Reading.{entryOnes}
+use Rattle.image.specs.Entry.{entryOnes}
 use Rattle.image.proofs.EntryLaws.{entry-ones-is, entry-ones-lt}
 use Rattle.image.proofs.reading.entry_ones.Statement.{statement}
 use Rattle.image.proofs.reading.entry_ones.Tie as tie

@@ -1,11 +1,12 @@
 -- `image::reading::part_bit` meets its contract. Assumes nothing.
-use mathlib.Core.Path.{refl, ap, _∙_}
+use mathlib.Core.Path.{ap, _∙_}
 use Prim.Native.Nat.{ℕ, _+_, _/_, _%_}
 use native.Mathlib.Omega.{arith}
 use lib.ListN.{getD}
 use borrow.Author.Needs.{needs}
 use Rattle.words.specs.Bits.{bit}
-use Rattle.image.proofs.PartLaws.{bytes-inside}
+use Rattle.image.specs.Kinds.{kind1}
+use Rattle.image.proofs.KindLaws.{bytes-inside, kind1-fits}
 use Rattle.image.proofs.reading.part_bit.Statement.{statement}
 use Rattle.image.proofs.reading.part_bit.Tie as tie
 
@@ -18,7 +19,7 @@ add-byte-at c = search needs
 byte-at-requires : tie.Need-byte-at-requires
 byte-at-requires c κs =
     let a = c .before .before .args in
-    omega (arith, c .bits-start .ensures .0, bytes-inside 4096 (omega arith) (a .n) 16 512 (a .i / 8 + 1) refl (omega arith))
+    omega (arith, c .bits-start .ensures .0, bytes-inside kind1 kind1-fits (a .n) (a .i / 8 + 1) (omega arith))
 
 bit-of-requires : tie.Need-bit-of-requires
 bit-of-requires c κs = search needs

@@ -1,12 +1,15 @@
 -- `image::reading::part_ones_before` meets its contract. Assumes nothing.
-use mathlib.Core.Path.{_≡_, refl, sym, ap, ap₂, _∙_}
+use mathlib.Core.Path.{_≡_, sym, ap, ap₂, _∙_}
 use Prim.Native.Nat.{ℕ, _+_, _-_, _*_, _/_, _≤_}
 use native.Mathlib.Omega.{arith}
 use borrow.Author.Needs.{needs}
 use Rattle.words.specs.Bits.{bitAt, ones}
 use Rattle.words.proofs.Sums.{sum-zero, ones-le}
 use Rattle.words.proofs.WordLaws.{bitAt-le}
-use Rattle.image.proofs.PartLaws.{entry-inside, bytes-inside, bitsOf, right-indexed, ones-there}
+use Rattle.image.specs.Kinds.{kind1}
+use Rattle.image.proofs.KindLaws.{entry-inside, bytes-inside, kind1-fits}
+use Rattle.image.proofs.EntryLaws.{kind1-indexed}
+use Rattle.image.proofs.PartLaws.{bitsOf, ones-there}
 use Rattle.image.proofs.reading.part_ones_before.Statement.{statement}
 use Rattle.image.proofs.reading.part_ones_before.Tie as tie
 
@@ -14,7 +17,7 @@ returns : tie.Need-returns
 returns c =
     let a = c .before .before .args in
     let e : 0 ≡ a .i = omega arith in
-    (omega arith, λ right. sym (sum-zero (bitsOf (a .part .now) (a .n))) ∙ ap (ones (bitsOf (a .part .now) (a .n))) e)
+    (omega arith, λ right. sym (sum-zero (bitsOf kind1 (a .part .now) (a .n))) ∙ ap (ones (bitsOf kind1 (a .part .now) (a .n))) e)
 
 sub-m : tie.Need-sub-m
 sub-m c = search needs
@@ -32,12 +35,12 @@ block-at-requires : tie.Need-block-at-requires
 block-at-requires c κs =
     let a = c .before .before .before .args in
     let m : ℕ = (a .i - 1) / 512 in
-    omega (arith, c .bits-start .ensures .0, bytes-inside 4096 (omega arith) (a .n) 16 512 (64 * m + 64) refl (omega arith))
+    omega (arith, c .bits-start .ensures .0, bytes-inside kind1 kind1-fits (a .n) (64 * m + 64) (omega arith))
 
 entry-ones-requires : tie.Need-entry-ones-requires
 entry-ones-requires c κs =
     let a = c .before .before .before .before .args in
-    omega (arith, entry-inside 4096 (omega arith) (a .n) 16 ((a .i - 1) / 512 / 8) (omega arith))
+    omega (arith, entry-inside kind1 (a .n) ((a .i - 1) / 512 / 8) (omega arith))
 
 slice-aggregate-block-rank : tie.Need-slice-aggregate-block-rank
 slice-aggregate-block-rank c = search needs
@@ -70,9 +73,9 @@ returns-2 c =
       omega (arith, in-block c),
       λ right.
           ap₂ (λ (x y : ℕ). x + y) (c .before .before .entry-ones .ensures .0) (c .block-rank .ensures)
-          ∙ ones-there _ _ _ _ _ _ (right-indexed (a .part .now) (a .n) (omega arith) right) m (block .result) _ (omega arith)
+          ∙ ones-there _ _ _ _ _ _ (kind1-indexed (a .part .now) (a .n) (omega arith) right) m (block .result) _ (omega arith)
           (ap (λ (s : ℕ). s + 64 * m) (c .before .before .before .before .bits-start .ensures .0)) (block .ensures .1) (a .i - 512 * m) (omega arith)
-          ∙ ap (ones (bitsOf (a .part .now) (a .n))) e,
+          ∙ ap (ones (bitsOf kind1 (a .part .now) (a .n))) e,
     )
 
 pub part-ones-before-spec : {M : Type 1} → statement M

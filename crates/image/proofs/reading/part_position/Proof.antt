@@ -1,5 +1,5 @@
 -- `image::reading::part_position` meets its contract. Assumes nothing.
-use mathlib.Core.Path.{_≡_, refl, sym, ap, _∙_, subst}
+use mathlib.Core.Path.{_≡_, sym, ap, _∙_, subst}
 use Prim.Native.Nat.{ℕ, _+_, _-_, _*_, _/_, _≤_, _<_}
 use native.Mathlib.Nat.{le-refl}
 use native.Mathlib.Omega.{arith}
@@ -8,8 +8,11 @@ use Rattle.words.specs.Bits.{bitAt}
 use Rattle.words.specs.Strip.{rankOf, selectOf}
 use Rattle.words.specs.Words.{placeIn}
 use Rattle.words.proofs.SearchLaws.{select-le}
+use Rattle.image.specs.Kinds.{kind1}
 use Rattle.image.specs.Rows.{Right}
-use Rattle.image.proofs.PartLaws.{entry-inside, bytes-inside, bitsOf, right-indexed, told-le, told-above, place-there}
+use Rattle.image.proofs.KindLaws.{entry-inside, bytes-inside, kind1-fits}
+use Rattle.image.proofs.EntryLaws.{kind1-indexed}
+use Rattle.image.proofs.PartLaws.{bitsOf, told-le, told-above, place-there}
 use Rattle.image.proofs.reading.part_position.Statement.{statement}
 use Rattle.image.proofs.reading.part_position.Tie as tie
 
@@ -26,16 +29,16 @@ entry-values-requires : tie.Need-entry-values-requires
 entry-values-requires c κs =
     let a = c .before .before .args in
     let m = c .block-with in
-    omega (arith, m .ensures .0, entry-inside 4096 (omega arith) (a .n) 16 (m .result / 8) (omega (arith, m .ensures .0)))
+    omega (arith, m .ensures .0, entry-inside kind1 (a .n) (m .result / 8) (omega (arith, m .ensures .0)))
 
 -- of a right row, the block has at most k of v before it
-low : (c : tie.After-entry-values) → Right (c .before .before .before .args .part .now) (c .before .before .before .args .n)
+low : (c : tie.After-entry-values) → Right kind1 (c .before .before .before .args .part .now) (c .before .before .before .args .n)
     → c .entry-values .result ≤ c .before .before .before .args .k
 low c right =
     let a = c .before .before .before .args in
     let m = c .before .block-with in
     subst (λ (x : ℕ). x ≤ a .k) (sym (c .entry-values .ensures))
-    (told-le _ _ _ _ _ _ (right-indexed (a .part .now) (a .n) (omega arith) right) (m .result) (a .v) (a .k) ((a .n + 511) / 512)
+    (told-le _ _ _ _ _ _ (kind1-indexed (a .part .now) (a .n) (omega arith) right) (m .result) (a .v) (a .k) ((a .n + 511) / 512)
     (omega arith) (omega (arith, m .ensures .0)) (m .ensures .1))
 
 returns : tie.Need-returns
@@ -56,7 +59,7 @@ block-at-requires : tie.Need-block-at-requires
 block-at-requires c κs =
     let a = c .before .before .before .before .before .args in
     let m = c .before .before .before .block-with in
-    let inside = bytes-inside 4096 (omega arith) (a .n) 16 512 (64 * m .result + 64) refl (omega (arith, m .ensures .0)) in
+    let inside = bytes-inside kind1 kind1-fits (a .n) (64 * m .result + 64) (omega (arith, m .ensures .0)) in
     omega (arith, c .bits-start .ensures .0, m .ensures .0, inside)
 
 slice-aggregate-block-select : tie.Need-slice-aggregate-block-select
@@ -69,20 +72,20 @@ block-select-requires c κs = search needs
 place : (c : tie.After-block-select)
     → let a = c .before .before .before .before .before .before .before .before .args in
     let m = c .before .before .before .before .before .before .block-with .result in
-    Right (a .part .now) (a .n) → a .k < rankOf (bitsOf (a .part .now) (a .n)) (a .v) (a .n)
+    Right kind1 (a .part .now) (a .n) → a .k < rankOf (bitsOf kind1 (a .part .now) (a .n)) (a .v) (a .n)
     → (c .block-select .result < 512) × (512 * m + c .block-select .result < a .n)
-    × (512 * m + c .block-select .result ≡ placeIn (a .n) (selectOf (bitsOf (a .part .now) (a .n)) (a .n) (a .v) (a .k)))
+    × (512 * m + c .block-select .result ≡ placeIn (a .n) (selectOf (bitsOf kind1 (a .part .now) (a .n)) (a .n) (a .v) (a .k)))
 place c right few =
     let a = c .before .before .before .before .before .before .before .before .args in
     let said = c .before .before .before .before .before .entry-values in
     let m = c .before .before .before .before .before .before .block-with in
     let block = c .before .before .block-at in
     let inside : m .result < (a .n + 511) / 512 = m .ensures .0 in
-    place-there _ _ _ _ _ _ (right-indexed (a .part .now) (a .n) (omega arith) right) (m .result) (block .result) _ (omega arith)
+    place-there _ _ _ _ _ _ (kind1-indexed (a .part .now) (a .n) (omega arith) right) (m .result) (block .result) _ (omega arith)
     (ap (λ (s : ℕ). s + 64 * m .result) (c .before .before .before .bits-start .ensures .0)) (block .ensures .1)
     (a .v) (a .k) (c .block-select .result) (omega arith)
     (subst (λ (x : ℕ). x ≤ a .k) (said .ensures) (low (c .before .before .before .before .before) right))
-    (told-above _ _ _ _ _ _ (right-indexed (a .part .now) (a .n) (omega arith) right) (m .result) (a .v) (a .k) (omega arith) inside (m .ensures .1) few)
+    (told-above _ _ _ _ _ _ (kind1-indexed (a .part .now) (a .n) (omega arith) right) (m .result) (a .v) (a .k) (omega arith) inside (m .ensures .1) few)
     few
     (c .block-select .ensures ∙ ap (λ (x : ℕ). placeIn 512 (selectOf (bitAt (block .result)) 512 (a .v) (a .k - x))) (said .ensures))
 

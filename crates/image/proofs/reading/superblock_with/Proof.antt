@@ -4,7 +4,8 @@ use Prim.Native.Nat.{ℕ, _+_, _-_, _*_, _%_, _^_, _≤_, _<_}
 use native.Mathlib.Omega.{arith}
 use lib.Pow.{pow-mono}
 use Rattle.words.proofs.BitLaws.{one-shl}
-use Rattle.image.specs.Reading.{entryValues, Halved}
+use Rattle.image.specs.Entry.{entryValues}
+use Rattle.image.specs.Reading.{Halved}
 use Rattle.image.proofs.PartLaws.{halved-all, halved-short, halved-step}
 use Rattle.image.proofs.reading.superblock_with.Statement.{statement}
 use Rattle.image.proofs.reading.superblock_with.Tie as tie

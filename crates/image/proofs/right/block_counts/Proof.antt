@@ -8,19 +8,20 @@ use Rattle.words.specs.Bits.{ones}
 use Rattle.words.proofs.Sums.{ones-le}
 use Rattle.words.proofs.BitLaws.{bit-le}
 use Rattle.image.specs.Bytes.{bitFrom}
-use Rattle.image.proofs.EntryLaws.{Counting, counting-none, counting-more, counting-done}
+use Rattle.image.specs.Kinds.{kind1}
+use Rattle.image.proofs.CountLaws.{Counting, counting-none, counting-more, counting-done}
 use Rattle.image.proofs.RightLaws.{block-more}
 use Rattle.image.proofs.right.block_counts.Statement.{statement}
 use Rattle.image.proofs.right.block_counts.Tie as tie
 
 abbrev Inv-loop : tie.InvT-loop
-Inv-loop part at counts₀ sum₀ j₀ counts sum j = Counting (bitFrom part at) counts sum j
+Inv-loop part at counts₀ sum₀ j₀ counts sum j = Counting kind1 (bitFrom part at) counts sum j
 
 abbrev μ-loop : tie.MeasureT-loop
 μ-loop part at counts₀ sum₀ j₀ counts sum j = 8 - j
 
 loop-holds : tie.Need-loop-holds Inv-loop μ-loop
-loop-holds c = counting-none _ _ refl
+loop-holds c = counting-none kind1 _ _ refl
 
 mul-block-at : tie.Need-mul-block-at Inv-loop μ-loop
 mul-block-at c = omega arith
@@ -68,12 +69,12 @@ loop-less c = omega arith
 loop-again : tie.Need-loop-again Inv-loop μ-loop
 loop-again c =
     let l = c .before .before .before .before .loop in
-    counting-more _ (l .counts) (l .sum) (l .j) _ (l .inv) (c .before .before .before .loop-test .taken) (next c)
+    counting-more kind1 _ (l .counts) (l .sum) (l .j) _ (l .inv) (c .before .before .before .loop-test .taken) (next c)
 
 returns : tie.Need-returns Inv-loop μ-loop
 returns c =
     let l = c .before .loop in
-    counting-done _ (l .counts) (l .sum) (l .j) (l .inv) (c .loop-test .left)
+    counting-done kind1 _ (l .counts) (l .sum) (l .j) (l .inv) (c .loop-test .left)
 
 pub block-counts-spec : {M : Type 1} → statement M
 block-counts-spec =

@@ -4,7 +4,7 @@ use native.Mathlib.Omega.{arith}
 use borrow.Author.Needs.{needs}
 use borrow.Author.Tests.{eqb-true, eq-eqb, ne-eqb}
 use Rattle.image.proofs.ChainLaws.{decides}
-use Rattle.image.proofs.RightLaws.{halves-same, same-halves}
+use Rattle.image.proofs.EntryLaws.{halves-same, same-halves}
 use Rattle.image.proofs.right.entry_right.Statement.{statement}
 use Rattle.image.proofs.right.entry_right.Tie as tie
 

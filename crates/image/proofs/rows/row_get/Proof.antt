@@ -3,6 +3,8 @@ use mathlib.Core.Path.{_∙_}
 use mathlib.Core.List.{[], _∷_}
 use Rattle.words.specs.Calls.{belowLine}
 use Rattle.image.specs.Calls.{rowLength}
+use Rattle.image.specs.Kinds.{kind1}
+use Rattle.image.proofs.KindLaws.{one-kind}
 use Rattle.image.proofs.RowLaws.{row-refused, row-inside, row-room, row-held, row-look}
 use borrow.Author.Needs.{needs}
 use Rattle.image.proofs.rows.row_get.Statement.{statement}
@@ -42,7 +44,7 @@ returns-2 c =
     let a = c .before .before .before .before .before .before .before .before .args in
     let row =
     row-held (a .image .now) (a .label) _ _ (c .before .before .before .before .before .before .open-row .ensures) (c .before .before .before .before .o .given .1)
-    _ _ (c .before .before .record-part .ensures) (c .before .length-at .ensures .0) in
+    kind1 _ _ (one-kind (a .image .now)) (c .before .before .record-part .ensures) (c .before .length-at .ensures .0) in
     c .part-get .ensures ∙ row-look row (a .i)
 
 pub row-get-spec : {M : Type 1} → statement M

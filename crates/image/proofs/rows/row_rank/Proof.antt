@@ -2,6 +2,8 @@
 use mathlib.Core.List.{[], _∷_}
 use Rattle.words.specs.Calls.{valueLine, withinLine}
 use Rattle.image.specs.Calls.{rowLength}
+use Rattle.image.specs.Kinds.{kind1}
+use Rattle.image.proofs.KindLaws.{one-kind}
 use Rattle.image.proofs.RowLaws.{row-refused-promise, row-inside, row-room, row-held, row-count}
 use borrow.Author.Needs.{needs}
 use Rattle.image.proofs.rows.row_rank.Statement.{statement}
@@ -41,7 +43,7 @@ returns-2 c =
     let a = c .before .before .before .before .before .before .before .before .args in
     let row =
     row-held (a .image .now) (a .label) _ _ (c .before .before .before .before .before .before .open-row .ensures) (c .before .before .before .before .o .given .1)
-    _ _ (c .before .before .record-part .ensures) (c .before .length-at .ensures .0) in
+    kind1 _ _ (one-kind (a .image .now)) (c .before .before .record-part .ensures) (c .before .length-at .ensures .0) in
     row-count row (a .v) (a .i) _ (c .part-rank .ensures)
 
 pub row-rank-spec : {M : Type 1} → statement M

@@ -5,7 +5,9 @@ use native.Mathlib.Omega.{arith}
 use lib.ListN.{length, set}
 use Rattle.words.specs.Strip.{cell, stripOf}
 use Rattle.words.proofs.StripLaws.{strip-le}
+use Rattle.image.specs.Kinds.{kind1}
 use Rattle.image.specs.Writing.{superblockCells}
+use Rattle.image.proofs.KindLaws.{kind1-fits}
 use Rattle.image.proofs.WriteLaws.{Blocks, blocks-none, blocks-more, blocks-done, bits-ext, bits-length, bits-le}
 use borrow.Author.Needs.{needs}
 use Rattle.image.proofs.write.put_superblock.Statement.{statement}
@@ -13,13 +15,13 @@ use Rattle.image.proofs.write.put_superblock.Tie as tie
 
 abbrev Inv-loop : tie.InvT-loop
 Inv-loop bytes₀ at words n e counts₀ sum₀ j₀ bytes counts sum j =
-    (length bytes ≡ length bytes₀) × Blocks (superblockCells (stripOf words n) e) at bytes₀ bytes counts sum j
+    (length bytes ≡ length bytes₀) × Blocks kind1 (superblockCells kind1 (stripOf words n) e) at bytes₀ bytes counts sum j
 
 abbrev μ-loop : tie.MeasureT-loop
 μ-loop bytes₀ at words n e counts₀ sum₀ j₀ bytes counts sum j = 8 - j
 
 loop-holds : tie.Need-loop-holds Inv-loop μ-loop
-loop-holds c = (refl, blocks-none _ _ _ _ refl)
+loop-holds c = (refl, blocks-none kind1 _ _ _ _ refl)
 
 mul-w : tie.Need-mul-w Inv-loop μ-loop
 mul-w c = search needs
@@ -44,7 +46,7 @@ next : (c : tie.After-slice-known2 Inv-loop μ-loop)
     → let put = c .before .before in
     let l = put .before .before .before .loop in
     let a = put .before .before .before .before .before .before .args in
-    Blocks (superblockCells (stripOf (a .words .now) (a .n)) (a .e)) (a .at) (a .bytes .now) (put .put-strip-block .last .0)
+    Blocks kind1 (superblockCells kind1 (stripOf (a .words .now) (a .n)) (a .e)) (a .at) (a .bytes .now) (put .put-strip-block .last .0)
     (set (l .counts) (l .j) (l .sum + put .put-strip-block .result)) (l .sum + put .put-strip-block .result) (l .j + 1)
 next c =
     let put = c .before .before in
@@ -52,9 +54,9 @@ next c =
     let l = test .before .loop in
     let a = test .before .before .before .before .args in
     let t = stripOf (a .words .now) (a .n) in
-    let g = superblockCells t (a .e) in
+    let g = superblockCells kind1 t (a .e) in
     let place : (p : ℕ) → 64 * (64 * a .e + 8 * l .j) + p ≡ 4096 * a .e + (8 * (64 * l .j) + p) = λ p. omega arith in
-    blocks-more g (a .at) (a .bytes .now) (l .bytes) _ (l .counts) (l .sum) (l .j) _ (l .inv .1) (test .loop-test .taken)
+    blocks-more kind1 g (a .at) (a .bytes .now) (l .bytes) _ (l .counts) (l .sum) (l .j) _ (l .inv .1) (test .loop-test .taken)
     (bits-ext (λ p. g (8 * (64 * l .j) + p)) _ _ _ _ 64 _ (put .put-strip-block .ensures) (λ p h. ap (cell t) (place p)))
 
 add-sum : tie.Need-add-sum Inv-loop μ-loop
@@ -85,7 +87,7 @@ same-length c = search needs
 returns : tie.Need-returns Inv-loop μ-loop
 returns c =
     let l = c .before .loop in
-    blocks-done _ _ _ _ (l .counts) (l .sum) (l .j) (l .inv .1) (c .loop-test .left)
+    blocks-done kind1 _ _ _ kind1-fits _ (l .counts) (l .sum) (l .j) (l .inv .1) (c .loop-test .left)
 
 pub put-superblock-spec : {M : Type 1} → statement M
 put-superblock-spec =

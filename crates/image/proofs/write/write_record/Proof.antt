@@ -1,8 +1,13 @@
 -- `image::write::write_record` meets its contract. Assumes nothing.
-use Prim.Native.Nat.{_+_}
+use mathlib.Core.Path.{sym, ap}
+use Prim.Native.Nat.{ℕ, _+_}
 use native.Mathlib.Omega.{arith}
+use lib.Seq.{sets}
 use Rattle.words.specs.Strip.{stripOf}
 use Rattle.words.proofs.StripLaws.{strip-length, strip-le}
+use Rattle.image.specs.Kinds.{kind1}
+use Rattle.image.specs.Layout.{headBytes, entriesBytes, zeros}
+use Rattle.image.proofs.KindLaws.{kind1-fits, kind1-unpadded}
 use Rattle.image.proofs.WriteLaws.{record-stored}
 use borrow.Author.Needs.{needs}
 use Rattle.image.proofs.write.write_record.Statement.{statement}
@@ -53,9 +58,11 @@ returns c =
     let b = p1 .before .before .before .before in
     let start = b .before .bits-start in
     let a = b .before .before .before .before .before .args in
-    record-stored (stripOf (a .words .now) (a .n)) (a .n) (a .label) (b .write-superblocks .result) (a .at) (a .at + start .result) (a .image .now)
-    (b .write-superblocks .last .0) (p1 .put-le .last .0) (p2 .put-le2 .last .0) (p3 .put-le3 .last .0) (p4 .put-le4 .last .0)
+    record-stored kind1 kind1-fits (stripOf (a .words .now) (a .n)) (a .n) (a .label) (b .write-superblocks .result) (a .at) (a .at + start .result)
+    (a .image .now)
+    (b .write-superblocks .last .0) (b .write-superblocks .last .0) (p1 .put-le .last .0) (p2 .put-le2 .last .0) (p3 .put-le3 .last .0) (p4 .put-le4 .last .0)
     (strip-length (a .words .now) (a .n)) (strip-le (a .words .now) (a .n)) (omega (arith, start .ensures .0)) (b .write-superblocks .ensures)
+    (ap (λ (m : ℕ). sets (b .write-superblocks .last .0) (a .at + headBytes + entriesBytes kind1 (a .n)) (zeros m)) (sym (kind1-unpadded (a .n))))
     (p1 .put-le .ensures) (p2 .put-le2 .ensures) (p3 .put-le3 .ensures) (p4 .put-le4 .ensures)
 
 pub write-record-spec : {M : Type 1} → statement M

@@ -1,12 +1,15 @@
 -- `image::write::write_superblock` meets its contract. Assumes nothing.
+use mathlib.Core.Path.{refl}
 use Prim.Native.Nat.{_+_, _*_}
 use native.Mathlib.Omega.{arith}
 use lib.Dec.{lit<}
 use Rattle.words.specs.Strip.{stripOf}
 use Rattle.words.proofs.Sums.{ones-le}
 use Rattle.words.proofs.StripLaws.{strip-le}
+use Rattle.image.specs.Kinds.{kind1}
 use Rattle.image.specs.Writing.{superblockCells}
-use Rattle.image.proofs.EntryLaws.{counts-fit}
+use Rattle.image.proofs.KindLaws.{kind1-fits}
+use Rattle.image.proofs.EntryLaws.{counts-fit, entry-made, halves-stored}
 use Rattle.image.proofs.WriteLaws.{superblock-stored}
 use borrow.Author.Needs.{needs}
 use Rattle.image.proofs.write.write_superblock.Statement.{statement}
@@ -19,7 +22,7 @@ entry-halves-requires : tie.Need-entry-halves-requires
 entry-halves-requires c κs =
     let a = c .before .before .before .before .before .before .args in
     let put = c .before .before .put-superblock .ensures in
-    counts-fit (superblockCells (stripOf (a .words .now) (a .n)) (a .e)) _ _ (put .counted) (λ p. strip-le (a .words .now) (a .n) (4096 * a .e + p))
+    counts-fit (superblockCells kind1 (stripOf (a .words .now) (a .n)) (a .e)) _ _ (put .counted) (λ p. strip-le (a .words .now) (a .n) (4096 * a .e + p))
     (omega arith)
 
 put-word-requires : tie.Need-put-word-requires
@@ -41,7 +44,7 @@ add-result c =
     omega (
       arith,
       bits .put-superblock .ensures .counted .ends 7 (lit< tt),
-      ones-le (superblockCells (stripOf (a .words .now) (a .n)) (a .e)) 4096 (λ p. strip-le (a .words .now) (a .n) (4096 * a .e + p)),
+      ones-le (superblockCells kind1 (stripOf (a .words .now) (a .n)) (a .e)) 4096 (λ p. strip-le (a .words .now) (a .n) (4096 * a .e + p)),
     )
 
 same-length : tie.Need-same-length
@@ -55,10 +58,11 @@ returns c =
     let bits = halves .before .before .before in
     let top = bits .before .before .before .before in
     let a = top .args in
-    superblock-stored (superblockCells (stripOf (a .words .now) (a .n)) (a .e)) (a .to) (halves .entry-halves .result .low)
-    (halves .entry-halves .result .high) (a .image .now) (bits .put-superblock .last .0) (low .put-word .last .0) (high .put-word2 .last .0)
-    (bits .put-superblock .result) (top .pre .0 .0) (bits .put-superblock .ensures) (halves .entry-halves .ensures) (low .put-word .ensures)
-    (high .put-word2 .ensures)
+    let put = bits .put-superblock in
+    superblock-stored kind1 kind1-fits (superblockCells kind1 (stripOf (a .words .now) (a .n)) (a .e)) (a .to) (a .image .now) (put .last .0)
+    (high .put-word2 .last .0)
+    (put .result) _ 7 (top .pre .0 .0) (put .ensures) (entry-made _ _ _ (put .ensures .counted))
+    (halves-stored (put .last .0) (low .put-word .last .0) _ _ _ _ _ (halves .entry-halves .ensures) (low .put-word .ensures) (high .put-word2 .ensures)) refl
 
 pub write-superblock-spec : {M : Type 1} → statement M
 write-superblock-spec =

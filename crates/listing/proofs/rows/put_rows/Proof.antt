@@ -2,6 +2,7 @@
 -- measure is what is left of the image past `at`. Assumes nothing.
 use native.Mathlib.Omega.{arith}
 use lib.ListN.{length}
+use Rattle.image.specs.Chain.{kindOf}
 use Rattle.image.proofs.ChainLaws.{RecordFacts, chain-facts}
 use Rattle.image.proofs.WalkLaws.{left, left-less}
 use Rattle.listing.proofs.StoreLaws.{put-length}
@@ -22,7 +23,8 @@ loop-holds : tie.Need-loop-holds Inv-loop μ-loop
 loop-holds c = rw (c .first-record .ensures) (rows-none _ _ (c .before .before .before .pre .0))
 
 -- the record that a turn stands at
-known : (c : tie.In-loop Inv-loop μ-loop) → RecordFacts (c .before .before .before .before .before .args .image .now) (c .before .loop .at)
+known : (c : tie.In-loop Inv-loop μ-loop)
+    → let s = c .before .before .before .before .before .args .image .now in RecordFacts (kindOf s) s (c .before .loop .at)
 known c = rows-record (c .before .loop .inv) (c .loop-test .taken)
 
 put-line-requires : tie.Need-put-line-requires Inv-loop μ-loop

@@ -5,9 +5,11 @@ use mathlib.Core.List.{[], _∷_}
 use borrow.Author.Needs.{needs}
 use Rattle.words.specs.Refusals.{coded}
 use Rattle.words.specs.Calls.{belowLine}
+use Rattle.image.specs.Kinds.{kind1}
 use Rattle.image.specs.Calls.{rowLength}
 use Rattle.image.proofs.ChainLaws.{opened-value}
 use Rattle.image.proofs.RowLaws.{row-refused}
+use Rattle.image.proofs.KindLaws.{one-kind}
 use Rattle.image.proofs.OpenedLaws.{opened-look}
 use Rattle.testing.proofs.images.image_opened_get.Statement.{statement}
 use Rattle.testing.proofs.images.image_opened_get.Tie as tie
@@ -43,7 +45,7 @@ returns-2 c =
     let a = c .before .before .before .before .before .before .args in
     let passed =
     opened-value (a .image .now) (a .label) _ _ (c .before .before .before .before .open-row .ensures) (c .before .before .enum-told .given .1) .0 in
-    c .coded2 .ensures ∙ ap coded (c .before .opened-get .ensures ∙ opened-look (a .image .now) (a .label) passed (a .i))
+    c .coded2 .ensures ∙ ap coded (c .before .opened-get .ensures ∙ opened-look kind1 (a .image .now) (a .label) (one-kind (a .image .now)) passed (a .i))
 
 pub image-opened-get-spec : {M : Type 1} → statement M
 image-opened-get-spec =

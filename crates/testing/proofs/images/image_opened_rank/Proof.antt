@@ -3,9 +3,11 @@
 use mathlib.Core.List.{[], _∷_}
 use borrow.Author.Needs.{needs}
 use Rattle.words.specs.Calls.{valueLine, withinLine}
+use Rattle.image.specs.Kinds.{kind1}
 use Rattle.image.specs.Calls.{rowLength}
 use Rattle.image.proofs.ChainLaws.{opened-value}
 use Rattle.image.proofs.RowLaws.{row-refused-promise}
+use Rattle.image.proofs.KindLaws.{one-kind}
 use Rattle.image.proofs.OpenedLaws.{opened-count}
 use Rattle.testing.proofs.images.image_opened_rank.Statement.{statement}
 use Rattle.testing.proofs.images.image_opened_rank.Tie as tie
@@ -46,7 +48,7 @@ returns-2 c =
     opened-value (a .image .now) (a .label) _ _ (c .before .before .before .before .open-row .ensures) (c .before .before .enum-told .given .1) .0 in
     record {
       told = _;
-      holds = opened-count (a .image .now) (a .label) passed (a .v) (a .i) _ (c .before .opened-rank .ensures);
+      holds = opened-count kind1 (a .image .now) (a .label) (one-kind (a .image .now)) passed (a .v) (a .i) _ (c .before .opened-rank .ensures);
       code = c .coded2 .ensures;
     }
 

@@ -3,9 +3,11 @@
 use mathlib.Core.List.{[], _∷_}
 use borrow.Author.Needs.{needs}
 use Rattle.words.specs.Calls.{valueLine, absentLine}
+use Rattle.image.specs.Kinds.{kind1}
 use Rattle.image.specs.Calls.{rowLength}
 use Rattle.image.proofs.ChainLaws.{opened-value}
 use Rattle.image.proofs.RowLaws.{row-refused-promise}
+use Rattle.image.proofs.KindLaws.{one-kind}
 use Rattle.image.proofs.OpenedLaws.{opened-find}
 use Rattle.testing.proofs.images.image_opened_select.Statement.{statement}
 use Rattle.testing.proofs.images.image_opened_select.Tie as tie
@@ -46,7 +48,7 @@ returns-2 c =
     opened-value (a .image .now) (a .label) _ _ (c .before .before .before .before .open-row .ensures) (c .before .before .enum-told .given .1) .0 in
     record {
       told = _;
-      holds = opened-find (a .image .now) (a .label) passed (a .v) (a .k) _ (c .before .opened-select .ensures);
+      holds = opened-find kind1 (a .image .now) (a .label) (one-kind (a .image .now)) passed (a .v) (a .k) _ (c .before .opened-select .ensures);
       code = c .coded2 .ensures;
     }
 

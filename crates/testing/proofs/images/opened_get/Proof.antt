@@ -17,6 +17,7 @@ use denote.Triple.Statement.{Triple}
 use denote.Triple.Table.{entered, cited}
 use Rattle.words.proofs.refusal.Answer as S
 use Rattle.words.proofs.refusal.Answer.Laws as S′
+use Rattle.image.specs.Kinds.{kind1}
 use Rattle.image.specs.Calls.{partGetTold}
 use Rattle.image.proofs.ShapeLaws.{machine, contractOf, Pre, ends, Walk, walk-contract, leave}
 use Rattle.image.proofs.HeldLaws.{bytes, opening, PartPromise, thin}
@@ -31,7 +32,7 @@ use Rattle.testing.proofs.images.opened_get.Statement.{statement}
 
 -- what is promised of a part, a length, the number and what is told
 abbrev Promised : PartPromise 1
-Promised κs part length xs told = told ≡ partGetTold part length (xs .0)
+Promised κs part length xs told = told ≡ partGetTold kind1 part length (xs .0)
 
 module _ {M : Type 1} (𝓤 : URA M) (H : Heap 𝓤) (A : Atoms 𝓤) (W : Given 𝓤 H A) (𝓣 : Tables 𝓤 H) (known-open : Triple 𝓤 (𝓣 .C open-row.name) (contractOf 𝓤 H A opening))
     (known : Triple 𝓤 (𝓣 .C callee.name) (contractOf 𝓤 H A (thin 1 Promised))) where

@@ -2,6 +2,7 @@
 -- `Row::select`. Assumes nothing.
 use contract.Running.{givenOf, tables, tablesOf}
 use denote.Triple.Table.{entered, cited}
+use Rattle.image.specs.Kinds.{kind1}
 use Rattle.image.specs.Calls.{PartSelected}
 use Rattle.image.proofs.ShapeLaws.{contractOf, walk-contract}
 use Rattle.image.proofs.HeldLaws.{opening, PartPromise, thin}
@@ -16,7 +17,7 @@ use Rattle.testing.proofs.images.opened_select.Statement.{statement}
 
 -- what is promised of a part, a length, the numbers and what is told
 abbrev Promised : PartPromise 2
-Promised κs part length xs told = PartSelected part length (xs .0) (xs .1 .0) told
+Promised κs part length xs told = PartSelected kind1 part length (xs .0) (xs .1 .0) told
 
 pub opened-select-spec : {M : Type 1} → statement M
 unfolding code.routine tablesOf

@@ -2,6 +2,7 @@
 use mathlib.Core.Path.{_≡_}
 use contract.Running.{givenOf, tables, tablesOf}
 use denote.Triple.Table.{entered, cited}
+use Rattle.image.specs.Kinds.{kind1}
 use Rattle.image.specs.Calls.{partGetTold}
 use Rattle.image.proofs.ShapeLaws.{contractOf, walk-contract}
 use Rattle.image.proofs.HeldLaws.{PartPromise, thin, covered, walk-one}
@@ -13,7 +14,7 @@ use Rattle.image.proofs.opened.Row.get.Statement.{statement}
 
 -- what is promised of a part, a length, the numbers and what is told
 abbrev Promised : PartPromise 1
-Promised κs part length xs told = told ≡ partGetTold part length (xs .0)
+Promised κs part length xs told = told ≡ partGetTold kind1 part length (xs .0)
 
 pub get-spec : {M : Type 1} → statement M
 unfolding code.routine tablesOf
