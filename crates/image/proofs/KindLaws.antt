@@ -33,6 +33,10 @@ pub record EntryTells (K : Kind) (told : ℕ → ℕ → ℕ) : Type 0 where
       → told (K .entry g before) j ≡ before + ones g (blockBits * j)
 
 -- ---- sizes
+-- b bits or bytes for each, and for one more
+pub times-more : (b e : ℕ) → b * (e + 1) ≡ b * e + b
+times-more b e = mul-add b e 1 ∙ ap (λ (x : ℕ). b * e + x) (mul-one b)
+
 module _ (K : Kind) (n : ℕ) where
   -- an entry lies before the zeros that pad the entries
   entry-before-pad : (e : ℕ) → e < superblocksOf K n → K .entryBytes * e + K .entryBytes ≤ entriesBytes K n
@@ -70,7 +74,8 @@ module _ (K : Kind) (F : KindFits K) where
     -- the superblocks of n bits hold them
     pub superblocks-cover : n ≤ K .superblockBits * superblocksOf K n
     superblocks-cover =
-        omega (arith, lt-mul-div-succ (n + (K .superblockBits - 1)) bits-some, mul-add (K .superblockBits) (superblocksOf K n) 1, mul-one (K .superblockBits))
+        let bb : ℕ = K .superblockBits in
+        omega (arith, lt-mul-div-succ (n + (bb - 1)) bits-some, times-more bb (superblocksOf K n))
 
     -- each begins before the last of the bits
     pub superblock-begins : (e : ℕ) → e < superblocksOf K n → K .superblockBits * e < n

@@ -5,7 +5,7 @@ use mathlib.Core.Logic.{_⊎_, inl, inr}
 use mathlib.Core.List.{List}
 use mathlib.Core.Option.{none}
 use Prim.Native.Nat.{ℕ, suc, _+_, _-_, _*_, _/_, _%_, _^_, _≤_, _<_}
-use native.Mathlib.Nat.{two-pow-succ, min-eq-left, le-refl, mul-zero, mul-add, mul-one, mul-le-mul-left, mod-lt, div-add-mod, div-lt-iff-lt-mul, mul-comm}
+use native.Mathlib.Nat.{two-pow-succ, min-eq-left, le-refl, mul-zero, mul-le-mul-left, mod-lt, div-add-mod, div-lt-iff-lt-mul, mul-comm}
 use native.Mathlib.Omega.{arith}
 use lib.Dec.{leb, eqb}
 use borrow.Author.Tests.{leb-true, leb-false, eqb-true}
@@ -28,7 +28,7 @@ use Rattle.image.specs.Chain.{lengthAt, onesAt, goodFields}
 use Rattle.image.specs.Rows.{rowBits, Right}
 use Rattle.image.specs.Calls.{goodPart}
 use Rattle.image.specs.Reading.{entryNumber, onesTold, Halved, PadZero}
-use Rattle.image.proofs.KindLaws.{KindFits, EntryTells, blocks-all, superblocks-cover, superblock-begins}
+use Rattle.image.proofs.KindLaws.{KindFits, EntryTells, times-more, blocks-all, superblocks-cover, superblock-begins}
 use Rattle.image.proofs.ChainLaws.{fields-facts}
 use Rattle.image.proofs.WriteLaws.{listOf-past, listOf-all, record-total, record-pad, record-entry, record-bit, rank-all}
 use Rattle.image.proofs.NumberLaws.{bytes-bit}
@@ -186,7 +186,7 @@ pub halved-blocks : (P : ℕ → ℕ) (w count end k b : ℕ) → end ≤ w * co
 halved-blocks P w count end k b all h = record { low = go (h .low); high = up (h .high) }
   where
     next : w * (b + 1) ≡ w * b + w
-    next = mul-add w b 1 ∙ ap (λ (x : ℕ). w * b + x) (mul-one w)
+    next = times-more w b
 
     go : (b ≡ 0) ⊎ (P (w * b) ≤ k) → (w * b ≡ 0) ⊎ (P (w * b) ≤ k)
     go (inl e) = inl (ap (λ (x : ℕ). w * x) e ∙ mul-zero w)

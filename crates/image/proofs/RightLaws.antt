@@ -4,7 +4,7 @@ use mathlib.Core.Bool.{Bool, true, false, not, false≢true}
 use mathlib.Core.Logic.{_⊎_, inl, inr, ⊎-elim}
 use mathlib.Core.List.{List, _∷_, _++_, append-assoc}
 use Prim.Native.Nat.{ℕ, zero, suc, _+_, _-_, _*_, _/_, _%_, _^_, _≤_, _<_}
-use native.Mathlib.Nat.{le-refl, lt-of-lt-of-le, mul-zero, mul-one, mul-suc, mul-add, mul-le-mul-left}
+use native.Mathlib.Nat.{le-refl, lt-of-lt-of-le, mul-zero, mul-suc, mul-le-mul-left}
 use native.Mathlib.Omega.{arith}
 use lib.Dec.{eqb}
 use lib.Pow.{pow-mono, shr-lt}
@@ -26,7 +26,7 @@ use Rattle.image.specs.Calls.{goodPart}
 use Rattle.image.specs.Writing.{BlockCounts, superblockCells}
 use Rattle.image.specs.Reading.{entryNumber, PadZero, PaddingZero}
 use Rattle.words.proofs.SameLaws.{same-eq, same-refl}
-use Rattle.image.proofs.KindLaws.{KindFits, EntryTells, bytes-all, superblocks-cover, pad-ends}
+use Rattle.image.proofs.KindLaws.{KindFits, EntryTells, times-more, bytes-all, superblocks-cover, pad-ends}
 use Rattle.image.proofs.ChainLaws.{decides}
 use Rattle.image.proofs.CountLaws.{counts-ext, counts-all}
 use Rattle.image.proofs.PutLaws.{drop-num}
@@ -75,9 +75,8 @@ entries-drop K part f e (suc k) small h is =
     let i : headBytes + eb * e + eb ≡ headBytes + eb * suc e = omega (arith, mul-suc eb e) in
     let j : suc e + k ≡ e + suc k = omega arith in
     let w : e + 1 ≤ e + suc k = omega arith in
-    let next : eb * (e + 1) ≡ eb * e + eb = mul-add eb e 1 ∙ ap (λ (x : ℕ). eb * e + x) (mul-one eb) in
     let own : List ℕ = le eb (entryOf K f e) in
-    drop-num part (headBytes + eb * e) eb (entryOf K f e) small (omega (arith, h, mul-le-mul-left eb w, next)) (is e (omega arith))
+    drop-num part (headBytes + eb * e) eb (entryOf K f e) small (omega (arith, h, mul-le-mul-left eb w, times-more eb e)) (is e (omega arith))
     ∙ ap (λ (l : List ℕ). own ++ l)
     (ap (λ (x : ℕ). drop x part) i
     ∙ entries-drop K part f (suc e) k small (subst (λ (x : ℕ). headBytes + eb * x ≤ length part) (sym j) h) (λ x l. is x (omega arith))
@@ -261,7 +260,7 @@ module _ (K : Kind) (F : KindFits K) (part : List ℕ) (n e sum : ℕ) (counts :
     pub read-more : (last : ℕ) → last + 1 ≡ superblockBlocks K → not t ≡ false → SuperblocksRead K part n (e + 1) (sum + getD counts last 0)
     read-more last all h =
         let bb : ℕ = K .superblockBits in
-        let i : bb * e + bb ≡ bb * (e + 1) = sym (mul-add bb e 1 ∙ ap (λ (k : ℕ). bb * e + k) (mul-one bb)) in
+        let i : bb * e + bb ≡ bb * (e + 1) = sym (times-more bb e) in
         let is : entryNumber K part e ≡ entryOf K f e = eqb-true _ _ (sym tested ∙ not-false t h) ∙ own-entry in
         record {
           within = omega (arith, x .inside);

@@ -3,7 +3,7 @@ use mathlib.Core.Path.{_≡_, refl, sym, ap, ap₂, _∙_, subst}
 use mathlib.Core.Logic.{⊎-elim}
 use mathlib.Core.List.{List, [], _∷_, _++_, append-assoc, append-nil}
 use Prim.Native.Nat.{ℕ, zero, suc, min, _+_, _-_, _*_, _/_, _%_, _^_, _≤_, _<_}
-use native.Mathlib.Nat.{one-mul, mod-lt, mod-eq-of-lt, zero-lt-suc, pow-zero, pow-succ', mul-zero, mul-one, mul-suc, mul-add, mul-le-mul-left}
+use native.Mathlib.Nat.{one-mul, mod-lt, mod-eq-of-lt, zero-lt-suc, pow-zero, pow-succ', mul-zero, mul-suc, mul-le-mul-left}
 use native.Mathlib.Omega.{arith}
 use lib.Bits.{bitAnd, and-mask}
 use lib.Dec.{lit<}
@@ -25,7 +25,7 @@ use Rattle.image.specs.Layout.{unitBytes, headBytes, mostRow, superblock
 use Rattle.image.specs.Rows.{rowBits, Right}
 use Rattle.image.specs.Chain.{headerOf}
 use Rattle.image.specs.Writing.{wordCells, BitsPut, CountedPut, SuperblockPut, RowPut}
-use Rattle.image.proofs.KindLaws.{KindFits, EntryTells, bytes-all, superblocks-cover, superblock-begins, pad-ends}
+use Rattle.image.proofs.KindLaws.{KindFits, EntryTells, times-more, bytes-all, superblocks-cover, superblock-begins, pad-ends}
 use Rattle.image.proofs.CountLaws.{counts-all, Counting, counting-none, counting-more, counting-done}
 use Rattle.image.proofs.PutLaws.{length-le, le-small, num-of, sets-join, sets-comm, sets-front}
 
@@ -563,9 +563,9 @@ module _ (K : Kind) (f : ℕ → ℕ) (a b : ℕ) (s : List ℕ) where
       let z : 0 + e ≡ e = omega arith in
       let entries : ES ++ E ≡ entriesFrom K f 0 (e + 1) =
       sym (entries-append K f 0 e 1 ∙ ap (λ (l : List ℕ). ES ++ l) (ap (λ (k : ℕ). entriesFrom K f k 1) z ∙ entries-one K f e)) in
-      let i : sb * e + sb ≡ sb * (e + 1) = sym (mul-add sb e 1 ∙ ap (λ (k : ℕ). sb * e + k) (mul-one sb)) in
-      let j : bb * e + bb ≡ bb * (e + 1) = sym (mul-add bb e 1 ∙ ap (λ (k : ℕ). bb * e + k) (mul-one bb)) in
-      let k : eb * e + eb ≡ eb * (e + 1) = sym (mul-add eb e 1 ∙ ap (λ (k : ℕ). eb * e + k) (mul-one eb)) in
+      let i : sb * e + sb ≡ sb * (e + 1) = sym (times-more sb e) in
+      let j : bb * e + bb ≡ bb * (e + 1) = sym (times-more bb e) in
+      let k : eb * e + eb ≡ eb * (e + 1) = sym (times-more eb e) in
       let bytes : BS ++ B ≡ bytesOf f (sb * (e + 1)) =
       ap (λ (l : List ℕ). BS ++ l) (bytes-ext g (λ p. f (8 * (sb * e) + p)) sb (λ p l. ap (λ (q : ℕ). f (q + p)) (sym (bytes-all K F e))))
       ∙ sym (bytes-append f (sb * e) sb)
