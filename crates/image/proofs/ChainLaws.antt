@@ -544,7 +544,7 @@ value-told none x y e = (refl, cc)
 value-told (some n) x y e = no-confusion cc
 
 -- a refusal says which line does
-refused-told : (v : Option ℕ) (n y : ℕ) → refused n ≡ unless v refused (value y) → v ≡ some n
+pub refused-told : (v : Option ℕ) (n y : ℕ) → refused n ≡ unless v refused (value y) → v ≡ some n
 refused-told none n y e = no-confusion cc
 refused-told (some m) n y e = cc
 

@@ -133,6 +133,11 @@ pub image-fits : (s : List ℕ) → KindFits (kindOf s)
 unfolding kindOf
 image-fits s = among-each KindFits kinds kind1-fits (kind1-fits, tt) (num s 4 4)
 
+-- and that there is
+pub image-named : (s : List ℕ) → KindNamed (kindOf s)
+unfolding kindOf
+image-named s = among-each KindNamed kinds kind1-named (kind1-named, tt) (num s 4 4)
+
 -- images with the same number in the header are of one kind
 pub same-kind : (s t : List ℕ) → num t 4 4 ≡ num s 4 4 → kindOf t ≡ kindOf s
 unfolding kindOf

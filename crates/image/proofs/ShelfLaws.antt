@@ -55,7 +55,7 @@ row-unmet label q rs e = go (eqb (q .label) label) refl e
     go false p d = (eqb-false _ _ p, d)
 
 -- one row more, with a label that was not met
-rows-snoc : {met : List ℕ} {rs : List Labelled} (r : Labelled) → GoodRows met rs → GoodRow r → among (r .label) met ≡ false → rowOf (r .label) rs ≡ none
+pub rows-snoc : {met : List ℕ} {rs : List Labelled} (r : Labelled) → GoodRows met rs → GoodRow r → among (r .label) met ≡ false → rowOf (r .label) rs ≡ none
     → GoodRows met (rs ++ (r ∷ []))
 unfolding among
 rows-snoc r rows-end g m e = rows-more g m rows-end

@@ -183,7 +183,7 @@ scanned-none s label h =
     }
 
 -- the label's record, with one record more
-placed-more : (s : List ℕ) (label at : ℕ) (past : List ℕ) (found : ℕ) → found ≡ placeIn 0 (placeOf s label past)
+pub placed-more : (s : List ℕ) (label at : ℕ) (past : List ℕ) (found : ℕ) → found ≡ placeIn 0 (placeOf s label past)
     → (labelAt s at ≡ label → placeOf s label past ≡ none)
     → cond (eqb (labelAt s at) label) at found ≡ placeIn 0 (placeOf s label (past ++ (at ∷ [])))
 unfolding placeOf

@@ -286,6 +286,11 @@ module _ (K : Kind) (x l : ℕ) (t : List ℕ) where
   from-8 : drop 8 r ≡ le 4 (length t) ++ (le 4 total ++ (es ++ (fs ++ bs)))
   from-8 = piece-after r (le 4 l) (le 4 (length t) ++ (le 4 total ++ (es ++ (fs ++ bs)))) 4 4 8 (length-le 4 l) from-4 refl
 
+  -- with another next index and label in front
+  pub record-heads : (y m : ℕ) → recordOf K y m t ≡ le 4 y ++ (le 4 m ++ drop 8 r)
+  unfolding recordOf
+  record-heads y m = ap (λ (z : List ℕ). le 4 y ++ (le 4 m ++ z)) (sym from-8)
+
   from-12 : drop 12 r ≡ le 4 total ++ (es ++ (fs ++ bs))
   from-12 = piece-after r (le 4 (length t)) (le 4 total ++ (es ++ (fs ++ bs))) 8 4 12 (length-le 4 (length t)) from-8 refl
 

@@ -37,10 +37,19 @@ pub use rows::row_rank;
 pub use rows::row_select;
 
 // For the layers above.
+pub use bytes::u64_at;
+pub use clearing::put_header;
 pub use fields::first_record;
 pub use fields::label_at;
 pub use fields::length_at;
 pub use fields::next_record;
 pub use fields::ones_at;
+pub use layout::LABEL_OFFSET;
+pub use layout::LENGTH_OFFSET;
+pub use layout::UNIT_BYTES;
+pub use layout::record_size;
 pub use layout::size_good;
+pub use open::record_part;
 pub use put::put_bytes;
+pub use put::put_le;
+pub use put::put_word;

@@ -30,6 +30,7 @@ numberOf refusal.LabelAbsent = 14
 numberOf refusal.WrongRow = 15
 numberOf refusal.Unequal = 16
 numberOf refusal.BadWindow = 17
+numberOf refusal.Conflict = 18
 
 -- a line of a table: the number of the refusal that is given where the condition holds
 pub record Line : Type 0 where

@@ -3,7 +3,7 @@ ghost use mathlib.Core.Path.{_≡_};
 ghost use Prim.Native.Nat.{_<_};
 ghost use Rattle.words.specs.Refusals.{numberOf, toldOf, coded as codedOf};
 
-// Why a call is refused, in the order of the numbers 1 to 17.
+// Why a call is refused, in the order of the numbers 1 to 18.
 pub enum Refusal {
     // capacity not allowed, or length above capacity
     BadHandle,
@@ -39,6 +39,8 @@ pub enum Refusal {
     Unequal,
     // a width not 1 to 65,536, or a number of misfires not 1 to the width
     BadWindow,
+    // a label in two images with unequal rows
+    Conflict,
 }
 
 // What a call's checks say.
@@ -75,6 +77,7 @@ pub fn number(r: Refusal) -> u64
         Refusal::WrongRow => 15,
         Refusal::Unequal => 16,
         Refusal::BadWindow => 17,
+        Refusal::Conflict => 18,
     }
 }
 

@@ -1,0 +1,5 @@
+pub mod RowsLaws
+pub mod CopyLaws
+pub mod RecordsLaws
+pub mod LoopLaws
+pub mod MergeLaws

@@ -1,0 +1,3 @@
+pub mod Merged
+pub mod Calls
+pub mod Working
