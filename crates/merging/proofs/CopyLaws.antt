@@ -1,15 +1,14 @@
 -- Bytes compared and copied, a word at a time. Assumes nothing.
 use mathlib.Core.Path.{_≡_, refl, sym, ap, ap₂, _∙_, subst}
-use mathlib.Core.Bool.{Bool, true, false, _&&_}
+use mathlib.Core.Bool.{Bool, true, false}
 use mathlib.Core.List.{List, [], _∷_, _++_}
-use Prim.Native.Nat.{ℕ, zero, suc, _+_, _*_, _≤_, _<_}
+use Prim.Native.Nat.{ℕ, _+_, _*_, _≤_, _<_}
 use native.Mathlib.Omega.{arith}
-use lib.ListN.{length, getD, drop, length-drop}
+use lib.ListN.{length, getD, drop}
 use lib.Seq.{sets, length-sets, drop-length}
-use lib.Dec.{eqb}
 use borrow.Author.Tests.{eq-eqb}
 use Rattle.words.specs.Bits.{same}
-use Rattle.words.proofs.SameLaws.{same-eq, same-refl}
+use Rattle.words.proofs.SameLaws.{same-eq}
 use Rattle.image.specs.Bytes.{num, le}
 use Rattle.image.proofs.PutLaws.{Copying, length-le, drop-num, sets-append}
 

@@ -1,9 +1,9 @@
 -- The loops over the rows of an image: where each starts, a turn, and what it has made where it ends. Assumes nothing.
 use mathlib.Core.Path.{_≡_, refl, sym, ap, ap₂, _∙_, subst}
-use mathlib.Core.Bool.{Bool, true, false, cond, not, _||_}
+use mathlib.Core.Bool.{Bool, true, false, cond}
 use mathlib.Core.List.{List, [], _∷_, _++_}
-use mathlib.Core.Option.{Option, some, none}
-use Prim.Native.Nat.{ℕ, zero, suc, _+_, _*_, _≤_, _<_}
+use mathlib.Core.Option.{some, none}
+use Prim.Native.Nat.{ℕ, zero, suc, _+_, _*_, _≤_}
 use native.Mathlib.Omega.{arith}
 use lib.ListN.{length, getD, set, replicate, drop, length-append, length-replicate, getD-replicate, length-set}
 use lib.Seq.{getD-set-same, getD-set-other, length-sets}
@@ -24,8 +24,8 @@ use Rattle.image.proofs.ShelfLaws.{sizes-append, sizes-more}
 use Rattle.merging.specs.Merged.{rowAt, rowsFrom, rowsOf, hasRow, rowsBut, unequal, conflict}
 use Rattle.merging.specs.Working.{RightRecord, Marks, Places, marked, unmarked, Measured, nextTo, recordsTo, Copied}
 use Rattle.merging.specs.Calls.{mergedRows}
-use Rattle.merging.proofs.RowsLaws.{RowWalk, row-walk-none, row-walk-facts, row-walk-fresh, row-walk-few, row-walk-more, row-walk-rest, row-walk-done, turn}
-use Rattle.merging.proofs.RowsLaws.{obeys-chain, obeys-right, rows-more, rows-length, bits-length, rowIf, row-placed, but-append, but-out, but-in, but-none, but-ext, conflict-append}
+use Rattle.merging.proofs.RowsLaws.{RowWalk, row-walk-none, row-walk-facts, row-walk-fresh, row-walk-more, row-walk-rest, row-walk-done, turn, obeys-chain, obeys-right}
+use Rattle.merging.proofs.RowsLaws.{rows-more, bits-length, rowIf, row-placed, but-append, but-out, but-in, but-none, but-ext, conflict-append}
 use Rattle.merging.proofs.RecordsLaws.{copied-none, copied-append, copied-written}
 
 -- ---- places by label
@@ -225,7 +225,8 @@ pub record CopyingRows (K : Kind) (s marks out₀ : List ℕ) (start end : ℕ) 
   pub long : length out ≡ length out₀
   pub copied : Copied K out₀ start end (unmarked marks (rowsFrom s past)) out at
 
-pub copying-rows-none : (K : Kind) → KindFits K → (s marks out : List ℕ) (start end : ℕ) → Obeys s → CopyingRows K s marks out start end out (unitBytes * num s 0 4) start
+pub copying-rows-none : (K : Kind) → KindFits K → (s marks out : List ℕ) (start end : ℕ) → Obeys s
+    → CopyingRows K s marks out start end out (unitBytes * num s 0 4) start
 unfolding rowsBut rowsFrom
 copying-rows-none K F s marks out start end o = record { past = []; walk = row-walk-none s o; long = refl; copied = copied-none K F out start end }
 

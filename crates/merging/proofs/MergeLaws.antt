@@ -1,6 +1,6 @@
 -- An accepted merge: its result passes inspection, has the merged rows, and reads each as the image that gave it. Assumes nothing.
 use mathlib.Core.Path.{_≡_, refl, sym, ap, ap₂, _∙_, subst}
-use mathlib.Core.Bool.{Bool, true, false, cond, not, _||_}
+use mathlib.Core.Bool.{Bool, true, false, cond, not, _||_, false≢true}
 use mathlib.Core.List.{List, [], _∷_, _++_, append-assoc, append-nil}
 use mathlib.Core.Option.{Option, some, none}
 use Prim.Native.Nat.{ℕ, _+_, _≤_, _<_}
@@ -14,7 +14,7 @@ use Rattle.words.specs.Words.{placeIn}
 use Rattle.words.specs.declared.refusal.Refusal.{Refusal}
 use Rattle.words.specs.declared.refusal.Answer.{Answer}
 use Rattle.words.specs.declared.refusal.Answer.the-variants.{Value, Refused}
-use Rattle.words.specs.Refusals.{numberOf, Line, _⇒_, judge, unless, Told, value, refused, toldOf}
+use Rattle.words.specs.Refusals.{numberOf, Line, _⇒_, judge, unless, Told, value, refused, toldOf, Small}
 use Rattle.words.specs.Calls.{valueLine, belowLine, withinLine, absentLine}
 use Rattle.words.proofs.BoolLaws.{and-first, and-second, not-not}
 use Rattle.words.proofs.CheckLaws.{judge-append, passes, passed-both}
@@ -30,12 +30,13 @@ use Rattle.image.proofs.ChainLaws.{no-confusion, size-facts, label-good, Record
 use Rattle.image.proofs.FreezeLaws.{none-in}
 use Rattle.image.proofs.RoundTripLaws.{gives-back, open-passes}
 use Rattle.image.proofs.PartLaws.{row-le}
+use Rattle.image.proofs.SmallLaws.{small-inspect}
 use Rattle.image.proofs.RowLaws.{after-lines, table-refused}
 use Rattle.image.proofs.ShelfLaws.{GoodRow, GoodRows, rows-end, rows-more, rows-snoc, Good, RowAt, places, length-image, length-places, written-kind, written-records, written-row, written-known, written-gives}
 use Rattle.image.proofs.InspectLaws.{inspect-accepts, inspect-obeys, written-obeys, written-inspected}
 use Rattle.merging.specs.Merged.{rowAt, rowsFrom, rowsOf, hasRow, rowsBut, conflict}
 use Rattle.merging.specs.Calls.{mergedRows, inspectTable, roomFor, mergeTable, mergeOutcome, giver, ReadAlike, MergedImage}
-use Rattle.merging.proofs.RowsLaws.{rows-length, rows-at, bits-length, rowIf, row-placed, rowElse, row-append, merged-row, obeys-chain, obeys-right}
+use Rattle.merging.proofs.RowsLaws.{rows-length, rows-at, bits-length, rowIf, row-placed, rowElse, row-append, merged-row, conflict-none, obeys-chain, obeys-right}
 
 -- ---- an image inspected
 -- one that no line refuses obeys the layout
@@ -275,6 +276,28 @@ module _ (first second third : List ℕ) (pass : judge (mergeTable first second 
             (absent-refused image label result-obeys (result-known label ∙ ap₂ (λ (x y : Option ℕ). isSome x || isSome y) d e))
             (absent-refused second label second-obeys (ap isSome e))
 
+  -- no row is unequal
+  equal : conflict (rowsOf first) (rowsOf second) ≡ false
+  equal = passes last (after-second .1) .0
+
+  -- a label of the second is read as there, whichever gave its row
+  result-both : (label : ℕ) → isSome (recordWith second label) ≡ true → ReadAlike image second label
+  result-both label h = go (recordWith first label) (recordWith second label) refl refl h
+    where
+      row : (s : List ℕ) (a : ℕ) → recordWith s label ≡ some a → rowOf label (rowsOf s) ≡ some (rowAt s a)
+      row s a e = row-placed s label (recordsOf s) ∙ ap (rowIf s) e
+
+      go : (o p : Option ℕ) → recordWith first label ≡ o → recordWith second label ≡ p → isSome p ≡ true → ReadAlike image second label
+      go o none d e z = absurd (false≢true z)
+      go none (some b) d e z = subst (λ (p : Option ℕ). ReadAlike image (cond (isSome p) first second) label) d (result-reads label)
+      go (some a) (some b) d e z =
+          let same : rowAt first a .bits ≡ rowAt second b .bits =
+          conflict-none (rowsOf first) (rowsOf second) label (rowAt first a) (rowAt second b) equal (row first a d) (row second b e) in
+          let given : GivesBack image label (rowAt first a .bits) =
+          written-gives K F N rs third good label (rowAt first a)
+          (merged-placed first second label ∙ ap (λ (p : Option ℕ). rowElse (rowIf first p) (rowIf second (recordWith second label))) d) in
+          read-same image second label (rowAt second b .bits) (subst (GivesBack image label) same given) (obeys-gives second label b second-obeys e)
+
   -- an accepted merge leaves an image of the merged rows
   pub merge-image : MergedImage first second image
   merge-image =
@@ -283,6 +306,7 @@ module _ (first second third : List ℕ) (pass : judge (mergeTable first second 
         rows = written-rows K F N rs third good;
         labels = result-known;
         reading = result-reads;
+        both = result-both;
       }
 
 -- ---- room for rows
@@ -323,7 +347,8 @@ module _ (first second third : List ℕ) where
     past-first = after-lines (inspectTable first) (inspectTable second ++ later) (obeys-passed first o)
 
     -- the second is
-    pub merge-second : (a : Answer) (r : Refusal) → toldOf a ≡ inspectTold second → a ≡ Refused r → imageOutcome (toldOf a) third ≡ mergeOutcome first second third
+    pub merge-second : (a : Answer) (r : Refusal) → toldOf a ≡ inspectTold second → a ≡ Refused r
+        → imageOutcome (toldOf a) third ≡ mergeOutcome first second third
     merge-second a r e d =
         ap (λ (t : Told). imageOutcome t third) (ap toldOf d)
         ∙ sym (ap outcome (past-first ∙ judge-append (inspectTable second) later
@@ -357,3 +382,12 @@ merge-accepted first second third n e = go (judge (mergeTable first second (leng
         → (n ≡ length (mergedRows first second)) × MergedImage first second (outcome first second third o .image)
     go none p d = (cc, merge-image first second third p)
     go (some k) p d = no-confusion cc
+
+-- a value that a merge tells is below 2^32
+pub small-merge : (first second third : List ℕ) → Small (mergeOutcome first second third .told)
+small-merge first second third = go (judge (mergeTable first second (length third))) refl
+  where
+    go : (o : Option ℕ) → judge (mergeTable first second (length third)) ≡ o → Small (outcome first second third o .told)
+    go none p =
+        subst Small (merge-image first second third p .inspected) (small-inspect (written (kindOf first) (mergedRows first second) third))
+    go (some k) p = tt

@@ -1,18 +1,17 @@
 -- Right records: two compared, one copied, and records written one after another up to where a chain ends. Assumes nothing.
 use mathlib.Core.Path.{_≡_, refl, sym, ap, ap₂, _∙_, subst}
-use mathlib.Core.Bool.{Bool, true, false, cond}
+use mathlib.Core.Bool.{Bool, true, false}
 use mathlib.Core.List.{List, [], _∷_, _++_, append-assoc, append-nil}
-use Prim.Native.Nat.{ℕ, zero, suc, _+_, _-_, _*_, _/_, _%_, _≤_, _<_}
+use Prim.Native.Nat.{ℕ, _+_, _-_, _*_, _/_, _%_, _≤_}
 use native.Mathlib.Omega.{arith}
 use lib.ListN.{length, getD, take, drop, length-append, length-drop}
 use lib.Seq.{sets, getD-drop, drop-at, take-all}
-use lib.Dec.{eqb}
 use borrow.Author.Tests.{eq-eqb, ne-eqb}
 use Rattle.words.specs.Bits.{bit, same}
 use Rattle.words.proofs.SameLaws.{same-eq, same-refl}
-use Rattle.image.specs.Bytes.{num, le, bitFrom}
+use Rattle.image.specs.Bytes.{le, bitFrom}
 use Rattle.image.specs.Kinds.{Kind}
-use Rattle.image.specs.Layout.{unitBytes, headBytes, mostRow, bitsStart, sizeOf, recordOf}
+use Rattle.image.specs.Layout.{unitBytes, bitsStart, sizeOf, recordOf}
 use Rattle.image.specs.Chain.{kindOf, headerOf, nextAt, labelAt, lengthAt}
 use Rattle.image.specs.Rows.{partAt, rowBits, Right}
 use Rattle.image.specs.Shelf.{Labelled, unitsOf, indexFor, recordsFrom, imageOf, written, sizesOf}
@@ -20,7 +19,6 @@ use Rattle.image.proofs.KindLaws.{KindFits, size-units}
 use Rattle.image.proofs.ChainLaws.{decides}
 use Rattle.image.proofs.PutLaws.{length-le, num-ext, sets-join, sets-front}
 use Rattle.image.proofs.WriteLaws.{listOf-ext, length-header, record-heads, record-length}
-use Rattle.image.proofs.PartLaws.{row-length}
 use Rattle.image.proofs.RowLaws.{part-size}
 use Rattle.image.proofs.NumberLaws.{num-taken}
 use Rattle.image.proofs.ShelfLaws.{sizes-append, length-image}

@@ -5,22 +5,24 @@ use mathlib.Core.List.{List, [], _∷_, _++_, append-nil}
 use mathlib.Core.Option.{Option, some, none}
 use Prim.Native.Nat.{ℕ, zero, suc, _+_, _*_, _≤_, _<_}
 use native.Mathlib.Omega.{arith}
-use lib.ListN.{length, getD, replicate, length-append, List·getD-append}
+use lib.ListN.{length, getD, length-append, List·getD-append}
 use lib.Seq.{getD-append-seam}
 use lib.Dec.{eqb}
 use borrow.Author.Tests.{eqb-true}
-use Rattle.words.proofs.BoolLaws.{true-false}
+use Rattle.words.specs.Bits.{same}
+use Rattle.words.proofs.BoolLaws.{true-false, not-not}
+use Rattle.words.proofs.SameLaws.{same-eq}
 use Rattle.image.specs.Bytes.{num}
 use Rattle.image.specs.Layout.{unitBytes, mostLabel}
 use Rattle.image.specs.Chain.{kindOf, labelAt, lengthAt, nextAt, chainOf, placeOf}
 use Rattle.image.specs.Rows.{partAt, RightAt, Obeys}
 use Rattle.image.specs.Shelf.{Labelled, rowOf}
-use Rattle.image.specs.Calls.{isSome, recordsIn, recordsOf, recordWith, rowPlace}
-use Rattle.image.proofs.ChainLaws.{RecordFacts, chain-facts, chain-few, place-found, found-placed}
+use Rattle.image.specs.Calls.{isSome, recordsIn, recordsOf, recordWith}
+use Rattle.image.proofs.ChainLaws.{no-confusion, RecordFacts, chain-facts, chain-few, place-found}
 use Rattle.image.proofs.PartLaws.{row-length}
 use Rattle.image.proofs.WalkLaws.{SoundWalk, Turn, walk-none, walk-turn, walk-done}
 use Rattle.merging.specs.Merged.{rowAt, rowsFrom, rowsOf, hasRow, rowsBut, merged, unequal, conflict}
-use Rattle.merging.specs.Working.{RightRecord, Places, marked, unmarked}
+use Rattle.merging.specs.Working.{RightRecord}
 
 -- ---- rows by their records
 -- some records, then others
@@ -119,11 +121,35 @@ but-ext p q s (a ∷ bs) h =
 pub conflict-append : (first xs ys : List Labelled) → conflict first (xs ++ ys) ≡ (conflict first xs || conflict first ys)
 unfolding conflict
 conflict-append first [] ys = refl
-conflict-append first (r ∷ xs) ys = ap (λ (t : Bool). unequal (rowOf (r .label) first) r || t) (conflict-append first xs ys) ∙ go (unequal (rowOf (r .label) first) r)
+conflict-append first (r ∷ xs) ys =
+    ap (λ (t : Bool). unequal (rowOf (r .label) first) r || t) (conflict-append first xs ys) ∙ go (unequal (rowOf (r .label) first) r)
   where
     go : (t : Bool) → (t || (conflict first xs || conflict first ys)) ≡ (t || conflict first xs || conflict first ys)
     go true = refl
     go false = refl
+
+-- neither of two tests holds
+or-none : (a b : Bool) → (a || b) ≡ false → (a ≡ false) × (b ≡ false)
+or-none true b h = absurd (true-false refl h)
+or-none false b h = (refl, h)
+
+-- where there are none, the rows of a label in both have the same bits
+pub conflict-none : (first rs : List Labelled) (label : ℕ) (q r : Labelled) → conflict first rs ≡ false → rowOf label first ≡ some q → rowOf label rs ≡ some r
+    → q .bits ≡ r .bits
+unfolding conflict rowOf
+conflict-none first [] label q r h e d = no-confusion cc
+conflict-none first (x ∷ rs) label q r h e d = go (eqb (x .label) label) refl d (λ f. conflict-none first rs label q r (each .1) e f)
+  where
+    each : (unequal (rowOf (x .label) first) x ≡ false) × (conflict first rs ≡ false)
+    each = or-none (unequal (rowOf (x .label) first) x) (conflict first rs) h
+
+    go : (t : Bool) → eqb (x .label) label ≡ t → cond t (some x) (rowOf label rs) ≡ some r → (rowOf label rs ≡ some r → q .bits ≡ r .bits) → q .bits ≡ r .bits
+    go true p f later =
+        let z : x ≡ r = cc in
+        let own : rowOf (x .label) first ≡ some q = ap (λ (l : ℕ). rowOf l first) (eqb-true (x .label) label p) ∙ e in
+        let u : not (same (q .bits) (x .bits)) ≡ false = ap (λ (o : Option Labelled). unequal o x) (sym own) ∙ each .0 in
+        same-eq (q .bits) (x .bits) (not-not _ u) ∙ ap (λ (y : Labelled). y .bits) z
+    go false p f later = later f
 
 -- ---- the walk over the rows of an image that obeys the layout
 -- a walk that stands at byte `at` after the rows of the records `past`
@@ -182,7 +208,8 @@ module _ {s : List ℕ} {at : ℕ} {past : List ℕ} (w : RowWalk s at past) (n 
           let f = place-found s label past b p in
           let i : ℕ = f .index in
           let whole : past ++ (at ∷ turn .rest) ≡ recordsOf s = turn .whole in
-          let here : getD (recordsOf s) i 0 ≡ b = ap (λ (l : List ℕ). getD l i 0) (sym whole) ∙ List·getD-append past (at ∷ turn .rest) 0 i (f .within) ∙ f .here in
+          let here : getD (recordsOf s) i 0 ≡ b =
+          ap (λ (l : List ℕ). getD l i 0) (sym whole) ∙ List·getD-append past (at ∷ turn .rest) 0 i (f .within) ∙ f .here in
           let there : getD (recordsOf s) (length past) 0 ≡ at =
           ap (λ (l : List ℕ). getD l (length past) 0) (sym whole) ∙ getD-append-seam past at (turn .rest) 0 in
           absurd (chain-facts s (recordsOf s) (obeys-chain (w .obeys)) .differ i (length past) (f .within)

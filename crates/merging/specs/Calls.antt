@@ -1,7 +1,7 @@
 -- The merge of two images: its refusals in order, its outcome, and what holds of its result. Assumes nothing.
 use Prim.Native.Nat.{ℕ, _+_}
 use mathlib.Core.Path.{_≡_}
-use mathlib.Core.Bool.{Bool, not, cond, _&&_, _||_}
+use mathlib.Core.Bool.{Bool, true, not, cond, _&&_, _||_}
 use mathlib.Core.List.{List, [], _∷_, _++_}
 use lib.ListN.{length}
 use lib.Dec.{leb}
@@ -51,9 +51,10 @@ pub record ReadAlike (s t : List ℕ) (label : ℕ) : Type 0 where
   pub find : (v k : ℕ) (o p : Told) → RowSelected s label v k o → RowSelected t label v k p → o ≡ p
 
 -- what an accepted merge leaves: an image that passes inspection with so many rows, the merged ones; every label that either had and no other; each row read as
--- in the image that gave it
+-- in the image that gave it, and one that stood in both as in either
 pub record MergedImage (first second third : List ℕ) : Type 0 where
   pub inspected : inspectTold third ≡ value (length (mergedRows first second))
   pub rows : rowsOf third ≡ mergedRows first second
   pub labels : (label : ℕ) → isSome (recordWith third label) ≡ (isSome (recordWith first label) || isSome (recordWith second label))
   pub reading : (label : ℕ) → ReadAlike third (giver first second label) label
+  pub both : (label : ℕ) → isSome (recordWith second label) ≡ true → ReadAlike third second label

@@ -1,13 +1,13 @@
 -- Derived, for inner contracts: places and marks by label, what is measured, and the records of rows written one after another. Laws in proofs/ tie them to the
 -- merge. Assumes nothing.
-use Prim.Native.Nat.{ℕ, _+_, _*_, _/_, _<_, _≤_}
+use Prim.Native.Nat.{ℕ, _+_, _*_, _/_, _≤_}
 use mathlib.Core.Path.{_≡_}
 use mathlib.Core.Bool.{Bool, cond, not}
 use mathlib.Core.List.{List, [], _∷_, _++_}
 use lib.ListN.{length, getD}
 use lib.Dec.{eqb}
 use lib.Seq.{sets}
-use Rattle.image.specs.Kinds.{Kind, kind1}
+use Rattle.image.specs.Kinds.{Kind}
 use Rattle.image.specs.Layout.{unitBytes, headBytes, mostBytes, mostLabel, mostRow, sizeOf, recordOf}
 use Rattle.image.specs.Chain.{kindOf, lengthAt, endAt}
 use Rattle.image.specs.Rows.{RightAt}

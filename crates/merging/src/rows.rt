@@ -3,7 +3,6 @@ ghost use mathlib.Core.Path.{_≡_};
 ghost use mathlib.Core.List.{[], _∷_};
 ghost use Prim.Native.Nat.{_+_, _≤_};
 ghost use lib.ListN.{length};
-ghost use lib.Seq.{sets};
 ghost use Rattle.words.specs.Bits.{same};
 ghost use Rattle.image.specs.Kinds.{kind1};
 ghost use Rattle.image.specs.Layout.{mostBytes, mostLabel, sizeOf};
@@ -130,12 +129,23 @@ fn copy_record(image: &[u8], from: usize, out: &mut [u8], at: usize, end: usize)
     let after = at + size;
     put_le(out, at, 4, next_index(after, end) as u64);
     put_le(out, at + LABEL_OFFSET, 4, label_at(image, from) as u64);
-    copy_words(out, at + LENGTH_OFFSET, &part[LENGTH_OFFSET..size], rest / 8);
+    copy_words(
+        out,
+        at + LENGTH_OFFSET,
+        &part[LENGTH_OFFSET..size],
+        rest / 8,
+    );
     after
 }
 
 // Copies the records of an image whose label has no mark, one after another from byte `start` on. Answers where they end.
-pub fn copy_rows(image: &[u8], marks: [usize; PLACES], out: &mut [u8], start: usize, end: usize) -> usize
+pub fn copy_rows(
+    image: &[u8],
+    marks: [usize; PLACES],
+    out: &mut [u8],
+    start: usize,
+    end: usize,
+) -> usize
     requires { ⌜ Obeys (now image) × Marks marks × (start + sizesOf kind1 (unmarked marks (rowsOf (now image))) ≤ length (now out)) ×
         (length (now out) ≤ mostBytes) ⌝ }
     ensures { λ r. ⌜ Copied kind1 (now (out .entry)) start end (unmarked marks (rowsOf (now (image .entry)))) (now (out .exit)) r ⌝ }

@@ -3,6 +3,7 @@ ghost use mathlib.Core.Path.{_≡_};
 ghost use Rattle.words.specs.Refusals.{coded as codedOf, CodedAs};
 ghost use Rattle.words.specs.Handles.{handle};
 ghost use Rattle.image.specs.Calls.{clearOutcome, freezeOutcome, inspectTold, rowGetTold, RowRanked, RowSelected, recordSizeTold, rowLengthTold, rowLabelTold};
+ghost use Rattle.merging.specs.Calls.{mergeOutcome};
 use image::clear;
 use image::freeze;
 use image::inspect;
@@ -12,6 +13,7 @@ use image::row_label;
 use image::row_length;
 use image::row_rank;
 use image::row_select;
+use merging::merge;
 use words::Handle;
 use words::coded;
 
@@ -49,6 +51,15 @@ pub extern "C" fn image_inspect(image: &[u8]) -> u64
     ensures { λ r. ⌜ r ≡ codedOf (inspectTold (now (image .entry))) ⌝ }
 {
     coded(inspect(image))
+}
+
+// merge: the first image's rows, then those of the second whose label the first lacks, written out over the third.
+#[no_mangle]
+pub extern "C" fn image_merge(first: &[u8], second: &[u8], third: &mut [u8]) -> u64
+    ensures { λ r. ⌜ (r ≡ codedOf (mergeOutcome (now (first .entry)) (now (second .entry)) (now (third .entry)) .told)) ×
+        (now (third .exit) ≡ mergeOutcome (now (first .entry)) (now (second .entry)) (now (third .entry)) .image) ⌝ }
+{
+    coded(merge(first, second, third))
 }
 
 // row count(v, i): how many of the first i bits of the label's row equal v.

@@ -1,5 +1,5 @@
-// What libstrips.a exports for C, one function each: the seventeen calls, those that compare two strips, the waiting calls and the burst call; the queries of sizes
-// and rows.
+// What libstrips.a exports for C, one function each: the seventeen calls, those that compare two strips, the waiting calls, the burst call and the merge; the
+// queries of sizes and rows.
 mod images;
 mod pair;
 mod record;
@@ -10,6 +10,7 @@ mod wait;
 pub use images::image_clear;
 pub use images::image_freeze;
 pub use images::image_inspect;
+pub use images::image_merge;
 pub use images::image_record_size;
 pub use images::image_row_get;
 pub use images::image_row_label;

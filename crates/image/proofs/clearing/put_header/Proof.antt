@@ -1,5 +1,4 @@
 -- `image::clearing::put_header` meets its contract. Assumes nothing.
-use native.Mathlib.Omega.{arith}
 use Rattle.image.specs.Kinds.{kind1}
 use Rattle.image.proofs.WriteLaws.{header-stored}
 use borrow.Author.Needs.{needs}

@@ -1,8 +1,8 @@
 -- `merging::merging::merge_rows` meets its contract. Assumes nothing.
-use mathlib.Core.Path.{_≡_, refl, sym, ap, ap₂, _∙_}
+use mathlib.Core.Path.{_≡_, sym, ap, ap₂, _∙_}
 use mathlib.Core.Bool.{true, false}
 use mathlib.Core.List.{List}
-use Prim.Native.Nat.{ℕ, _+_, _≤_}
+use Prim.Native.Nat.{ℕ, _+_}
 use native.Mathlib.Omega.{arith}
 use lib.ListN.{length}
 use borrow.Author.Tests.{not-true, not-false}
@@ -34,11 +34,15 @@ returns c =
     merge-conflict _ _ _ (top .pre .0) (top .pre .1) (sym (c .before .rows-conflict .ensures) ∙ c .if1 .taken)
 
 -- no row is unequal
-equal : (c : tie.Else1) → let top = c .before .before .before .before .before .before in conflict (rowsOf (top .args .first .now)) (rowsOf (top .args .second .now)) ≡ false
+equal : (c : tie.Else1)
+    → let top = c .before .before .before .before .before .before in conflict (rowsOf (top .args .first .now)) (rowsOf (top .args .second .now)) ≡ false
 equal c = sym (c .before .rows-conflict .ensures) ∙ c .if1 .left
 
 -- where the rows end
-ended : (c : tie.After-measure2) → let top = c .before .before .before .before .before .before .before .before in unitBytes + c .before .measure .result .bytes + c .measure2 .result .bytes ≡ unitBytes + sizesOf kind1 (mergedRows (top .args .first .now) (top .args .second .now))
+ended : (c : tie.After-measure2)
+    → let top = c .before .before .before .before .before .before .before .before in
+    unitBytes + c .before .measure .result .bytes + c .measure2 .result .bytes
+    ≡ unitBytes + sizesOf kind1 (mergedRows (top .args .first .now) (top .args .second .now))
 ended c =
     let top = c .before .before .before .before .before .before .before .before in
     omega (
@@ -73,7 +77,8 @@ returns-2 c =
     (room-sized (kindOf first) (mergedRows first second) (length third) (sym (c .before .size-good .ensures) ∙ not-true _ (c .if2 .taken)))
 
 -- the size is in range
-good : (c : tie.Else2) → goodSize (length (c .before .before .before .before .before .before .before .before .before .before .before .before .args .third .now)) ≡ true
+good : (c : tie.Else2)
+    → goodSize (length (c .before .before .before .before .before .before .before .before .before .before .before .before .args .third .now)) ≡ true
 good c = sym (c .before .size-good .ensures) ∙ not-false _ (c .if2 .left)
 
 returns-3 : tie.Need-returns-3

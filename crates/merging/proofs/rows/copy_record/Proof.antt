@@ -17,7 +17,8 @@ record-part-requires : tie.Need-record-part-requires
 record-part-requires c κs = (c .before .before .pre .0 .room, c .before .before .pre .0 .inside)
 
 -- the size of the record, in whole units
-sized : (c : tie.After-record-part) → let a = c .before .before .before .args in length (c .record-part .result .now) ≡ sizeOf kind1 (lengthAt (a .image .now) (a .from))
+sized : (c : tie.After-record-part)
+    → let a = c .before .before .before .args in length (c .record-part .result .now) ≡ sizeOf kind1 (lengthAt (a .image .now) (a .from))
 sized c = let top = c .before .before .before in part-whole kind1 _ _ (top .pre .0) (one-kind _) _ (c .record-part .ensures)
 
 sub-rest : tie.Need-sub-rest

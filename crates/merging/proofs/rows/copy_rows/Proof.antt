@@ -8,7 +8,8 @@ use Rattle.image.proofs.KindLaws.{kind1-fits}
 use Rattle.image.proofs.ChainLaws.{RecordFacts, chain-facts}
 use Rattle.image.proofs.WalkLaws.{left, left-less}
 use Rattle.merging.proofs.RowsLaws.{obeys-chain, row-walk-facts, row-walk-right}
-use Rattle.merging.proofs.LoopLaws.{CopyingRows, copying-rows-none, copying-rows-room, copying-rows-out, copying-rows-in, copying-rows-done, mark-none, mark-some}
+use Rattle.merging.proofs.LoopLaws.{mark-none, mark-some}
+use Rattle.merging.proofs.LoopLaws.{CopyingRows, copying-rows-none, copying-rows-room, copying-rows-out, copying-rows-in, copying-rows-done}
 use borrow.Author.Needs.{needs}
 use Rattle.merging.proofs.rows.copy_rows.Statement.{statement}
 use Rattle.merging.proofs.rows.copy_rows.Tie as tie
@@ -20,7 +21,8 @@ abbrev μ-loop : tie.MeasureT-loop
 μ-loop image out₀ start end marks from₀ at₀ out from at = left (length image) from
 
 -- the record that a turn stands at
-known : (c : tie.In-loop Inv-loop μ-loop) → let s = c .before .before .before .before .before .args .image .now in RecordFacts (kindOf s) s (c .before .loop .from)
+known : (c : tie.In-loop Inv-loop μ-loop)
+    → let s = c .before .before .before .before .before .args .image .now in RecordFacts (kindOf s) s (c .before .loop .from)
 known c = row-walk-facts (c .before .loop .inv .walk) (c .loop-test .taken)
 
 first-record-requires : tie.Need-first-record-requires Inv-loop μ-loop

@@ -22,7 +22,8 @@ abbrev μ-loop : tie.MeasureT-loop
 μ-loop image marks rows₀ bytes₀ at₀ rows bytes at = left (length image) at
 
 -- the record that a turn stands at
-known : (c : tie.In-loop Inv-loop μ-loop) → let s = c .before .before .before .before .args .image .now in RecordFacts (kindOf s) s (c .before .loop .at)
+known : (c : tie.In-loop Inv-loop μ-loop)
+    → let s = c .before .before .before .before .args .image .now in RecordFacts (kindOf s) s (c .before .loop .at)
 known c = row-walk-facts (c .before .loop .inv .walk) (c .loop-test .taken)
 
 first-record-requires : tie.Need-first-record-requires Inv-loop μ-loop

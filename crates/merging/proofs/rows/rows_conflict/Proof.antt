@@ -16,7 +16,8 @@ abbrev μ-loop : tie.MeasureT-loop
 μ-loop first places second at₀ at = left (length second) at
 
 -- the record that a turn stands at
-known : (c : tie.In-loop Inv-loop μ-loop) → let s = c .before .before .before .before .before .args .second .now in RecordFacts (kindOf s) s (c .before .loop .at)
+known : (c : tie.In-loop Inv-loop μ-loop)
+    → let s = c .before .before .before .before .before .args .second .now in RecordFacts (kindOf s) s (c .before .loop .at)
 known c = row-walk-facts (c .before .loop .inv .walk) (c .loop-test .taken)
 
 first-record-requires : tie.Need-first-record-requires Inv-loop μ-loop
@@ -46,7 +47,8 @@ loop-less c =
 loop-again : tie.Need-loop-again Inv-loop μ-loop
 loop-again c =
     let t = c .before .before .before in
-    comparing-more (t .before .loop .inv) (t .loop-test .taken) _ (c .next-record .ensures) (sym (c .before .before .row-conflicts .ensures) ∙ c .before .if1 .left)
+    comparing-more (t .before .loop .inv) (t .loop-test .taken) _ (c .next-record .ensures)
+    (sym (c .before .before .row-conflicts .ensures) ∙ c .before .if1 .left)
 
 returns-2 : tie.Need-returns-2 Inv-loop μ-loop
 returns-2 c = comparing-done (c .before .loop .inv) (c .loop-test .left)

@@ -19,7 +19,8 @@ record-part-requires-2 : tie.Need-record-part-requires-2
 record-part-requires-2 c κs = let top = c .before .before .before in (top .pre .1 .room, top .pre .1 .inside)
 
 -- the size of the first record
-sized : (c : tie.After-record-part) → let a = c .before .before .before .args in length (c .record-part .result .now) ≡ sizeOf kind1 (lengthAt (a .first .now) (a .a))
+sized : (c : tie.After-record-part)
+    → let a = c .before .before .before .args in length (c .record-part .result .now) ≡ sizeOf kind1 (lengthAt (a .first .now) (a .a))
 sized c = let top = c .before .before .before in part-whole kind1 _ _ (top .pre .0) (one-kind _) _ (c .record-part .ensures)
 
 returns : tie.Need-returns
