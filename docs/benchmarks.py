@@ -38,9 +38,14 @@ WORST = {
 }
 # The most counts of ones that a search for a burst is to take at 2^24, and its least speed over a sliding count's.
 BURST_COUNTS, BURST_SPEED = 5, 8
+# The merges, with how many of the labels stand in both images; the bits of their rows, and those of the images of about
+# 32 MiB; and how many times two inspections and memcpy a merge of these is to take at most.
+MERGES = {"merge, none in both": "none", "merge, half in both": "half", "merge, all in both": "all"}
+MERGE_POWERS, MERGE_LONG, MERGE_MOST = ("6", "18", "23"), "23", 1.5
 COLUMNS = ("library", "C++", "C++, checked", "scan", "scan, popcnt", "sdsl", "CRoaring")
 PAIR, NOISE, CHECKED = "library / C++", "C++ again / C++", "library / C++, checked"
 COUNTS, SLIDING = "library / count of ones", "sliding count / library"
+PARTS = "library / two inspections + memcpy"
 # A ratio that differs more than this from the quotient of the two times is marked.
 TENTH = 0.1
 # The table that the page opens with: a name, the calls that it stands for, the columns that their speed is held against.
@@ -122,6 +127,9 @@ class Results:
         found = self.three("time", power, share, call, column)
         return found and found[1]
 
+    def bytes(self, power, share, what):
+        return next(int(row[3]) for row in self.kind("bytes") if row[:3] == [power, share, what])
+
     def instructions(self, power, name):
         for row in self.kind("instructions"):
             if row[:2] == [power, name]:
@@ -148,7 +156,7 @@ def spread(of, key, pair):
     three = of.three("ratio", *key, pair)
     if three is None:
         return ""
-    over, under = (of.time(*key, column) for column in pair.split(" / "))
+    over, under = (sum(of.time(*key, column) for column in side.split(" + ")) for side in pair.split(" / "))
     mark_ = "*" if pair != NOISE and abs(over / under / three[1] - 1) > TENTH else ""
     return f"{three[1]:.2f}{mark_} ({three[0]:.2f}–{three[2]:.2f})"
 
@@ -286,6 +294,8 @@ def others_table(of):
     row(f"freeze: {FREEZE_SHARE}'s speed", "24", speeds(of, "freeze", "memcpy", powers=("24",)), lambda x: x >= FREEZE_AIM, "{:.2f}")
     for aim, figures, met, form in burst_aims(of):
         row(f"burst: {aim}", "24", figures, met, form)
+    parts = [of.three("ratio", MERGE_LONG, "32/64", call, PARTS)[1] for call in MERGES]
+    row(f"merge: at most {MERGE_MOST} times two inspections + memcpy", MERGE_LONG, parts, lambda x: x <= MERGE_MOST, "{:.2f}")
     return table(["aim", "bits", "reached, by ones 1/64, 32/64, 63/64", ""], rows)
 
 
@@ -319,6 +329,23 @@ def bursts_table(of):
             rows.append([f"2^{power}", window, f"{share}, {words}", *times[:2], *ratios[:2], times[2], ratios[2], times[3], ratios[3]])
     head = ["bits", "m of w", "ones", "library", "C++", PAIR, "C++ / C++"]
     return with_note(table(head + ["count of ones", COUNTS, "sliding count", SLIDING], rows))
+
+
+def size(bytes_):
+    return f"{bytes_ / 1024:.0f} KiB" if bytes_ < 1 << 20 else f"{bytes_ / (1 << 20):.1f} MiB"
+
+
+def merges_table(of):
+    """Merges of two images, beside inspections of both and memcpy of the result."""
+    rows = []
+    for power in MERGE_POWERS:
+        for call, both in MERGES.items():
+            key = power, "32/64", call
+            sizes = [size(of.bytes(power, "32/64", f"{call}, {what}")) for what in ("an image", "the result")]
+            times = [duration(of.time(*key, column)) for column in ("library", "two inspections", "memcpy")]
+            rows.append([f"2^{power}", both, *sizes, *times, spread(of, key, PARTS)])
+    head = ["a row's bits", "labels in both", "each image", "result", "library", "two inspections", "memcpy", PARTS]
+    return with_note(table(head, rows))
 
 
 def freeze_table(of):
@@ -557,7 +584,7 @@ def main():
         "summary": summary_table, "machine": machine_table, "aims": aims_table, "others": others_table,
         "freeze": freeze_table, "alone": alone_table, "flips": flips_table, "instructions": instructions_table, "memory": memory_table, "stack": stack_table,
         "size": size_table, "word": word_table, "pairs": lambda of: two_strips_table(of, PAIRS),
-        "waiting": lambda of: two_strips_table(of, WAITING, ("two passes",)), "bursts": bursts_table,
+        "waiting": lambda of: two_strips_table(of, WAITING, ("two passes",)), "bursts": bursts_table, "merges": merges_table,
     }  # fmt: skip
     made = {name: make(of) for name, make in tables.items()}
     made |= {f"2^{power}": calls_table(of, power) for power in POWERS}

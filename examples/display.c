@@ -1,48 +1,26 @@
 /* A small display: shows the rows of the image in the file that its argument names, in chain order, by the proved
  * calls of display.h alone. */
 #include "display.h"
+#include "image_file.h"
 
 #include <inttypes.h>
-#include <stdbool.h>
-#include <stdio.h>
-#include <stdlib.h>
 
 /* How many misfires of a row are shown by their positions. */
 enum { SHOWN = 5 };
 
-/* The image's bytes. */
-static uint8_t *image;
-static size_t image_len;
+static struct image_file image;
 
-/* Reads the whole file. */
-static bool read_image(const char *path)
-{
-    FILE *file = fopen(path, "rb");
-    size_t room = 1 << 16;
-    bool all;
-    if (file == NULL)
-        return false;
-    image = malloc(room);
-    while (image != NULL) {
-        image_len += fread(image + image_len, 1, room - image_len, file);
-        if (image_len < room)
-            break;
-        room *= 2;
-        image = realloc(image, room);
-    }
-    all = image != NULL && !ferror(file);
-    fclose(file);
-    return all;
-}
+/* It, as the calls take it. */
+#define IMAGE image.bytes, image.len
 
 /* One line: label, length, misfires, and where the first of them are. */
 static void show_row(uint64_t label)
 {
-    uint64_t length = image_row_length(image, image_len, label);
-    uint64_t misfires = image_row_rank(image, image_len, label, 1, length);
+    uint64_t length = image_row_length(IMAGE, label);
+    uint64_t misfires = image_row_rank(IMAGE, label, 1, length);
     printf("%5" PRIu64 " %10" PRIu64 " %9" PRIu64, label, length, misfires);
     for (uint64_t k = 0; k < misfires && k < SHOWN; k++)
-        printf("%s%" PRIu64, k == 0 ? "  " : " ", image_row_select(image, image_len, label, 1, k));
+        printf("%s%" PRIu64, k == 0 ? "  " : " ", image_row_select(IMAGE, label, 1, k));
     printf("%s\n", misfires > SHOWN ? " .." : "");
 }
 
@@ -53,11 +31,11 @@ int main(int count, char **words)
         fprintf(stderr, "usage: %s IMAGE\n", words[0]);
         return 2;
     }
-    if (!read_image(words[1])) {
+    if (!read_image(words[1], &image)) {
         perror(words[1]);
         return 2;
     }
-    rows = image_inspect(image, image_len);
+    rows = image_inspect(IMAGE);
     if (STRIP_REFUSED(rows)) {
         enum strip_refusal why = STRIP_REFUSAL(rows);
         printf("refused %d: %s\n", (int)why, why == STRIP_UNSOUND ? "no sound chain" : "a wrong row");
@@ -69,7 +47,7 @@ int main(int count, char **words)
     if (rows > 0)
         printf("label     length  misfires  first misfires at\n");
     for (uint64_t k = 0; k < rows; k++)
-        show_row(image_row_label(image, image_len, k));
-    free(image);
+        show_row(image_row_label(IMAGE, k));
+    free(image.bytes);
     return 0;
 }

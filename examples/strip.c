@@ -1,12 +1,11 @@
 /* The day of two cylinders' strips, by the proved calls: a simulated watch is recorded, corrected, compared with what
  * the crank had said, read with strokes that still wait, counted, searched, checked and frozen. Each line shows a call
- * and its answers on the two strips. The image goes to the file that the argument names. */
+ * and its answers on the two strips. The image goes to the file that the first argument names. Two more go to the other
+ * arguments, as of a unit that replaced this one: one can be merged with the first, one cannot. */
+#include "image_file.h"
 #include "strip_record.h"
 
 #include <inttypes.h>
-#include <stdbool.h>
-#include <stdio.h>
-#include <stdlib.h>
 #include <string.h>
 
 /* Four hours of 45,000 strokes. For a minute the crank sensor was unplugged, and the engine stopped before the end. */
@@ -58,6 +57,7 @@ static answer check(void) { return strip_record_verify(&strip->record); }
 static answer burst(uint64_t w, uint64_t m) { return strip_record_burst(&strip->record, w, m); }
 static answer clear(void) { return strip_answer_of(image_clear(image, sizeof image)); }
 static answer freeze(uint64_t label) { return strip_record_freeze(&strip->record, image, sizeof image, label); }
+static answer freeze_crank(uint64_t label) { return strip_record_freeze(&strip->crank, image, sizeof image, label); }
 static answer inspect(void) { return strip_answer_of(image_inspect(image, sizeof image)); }
 
 /* Of the crank strip first, and second the strip that the pressure trace has corrected. */
@@ -237,17 +237,31 @@ static void show_find(const char *call, struct strip_find_range r)
 /* A line of a call on the image. */
 #define SHOW_IMAGE(call, meaning) printf("  %-24s%24" PRIu64 "  %s\n", TEXT(call), MUST(call).value, meaning)
 
-static bool write_image(const char *path)
+/* ---- The images. */
+
+/* Writes the image to a file; a failure is told, and ends the program. */
+static void keep(const char *path)
 {
-    FILE *file = fopen(path, "wb");
-    bool written = file != NULL && fwrite(image, 1, sizeof image, file) == sizeof image;
-    return file != NULL && fclose(file) == 0 && written;
+    if (!write_image(path, image, sizeof image)) {
+        perror(path);
+        exit(1);
+    }
+}
+
+/* Another unit's image: cylinder 1's strip as above, and under that label cylinder 3's as the crank judged it. */
+static void freeze_other(uint64_t label)
+{
+    MUST(clear());
+    MUST(freeze(strip->cylinder));
+    strip++;
+    MUST(freeze_crank(label));
+    strip = strips;
 }
 
 int main(int arguments, char **words)
 {
-    if (arguments != 2) {
-        fprintf(stderr, "usage: %s IMAGE\n", words[0]);
+    if (arguments != 4) {
+        fprintf(stderr, "usage: %s IMAGE OTHER CONFLICTING\n", words[0]);
         return 2;
     }
     for (strip = strips; strip < strips + 2; strip++)
@@ -295,9 +309,11 @@ int main(int arguments, char **words)
     SHOW_AS("freeze(1), freeze(3)", freeze(strip->cylinder), "where the row starts, in units of 16 bytes");
     ASK_AS("freeze(1), freeze(3)", freeze(strip->cylinder), "12 says: the image has a row of that label");
     SHOW_IMAGE(inspect(), "rows; bits, index and misfires agree in each");
-    if (!write_image(words[1])) {
-        perror(words[1]);
-        return 1;
-    }
+    keep(words[1]);
+
+    freeze_other(9);
+    keep(words[2]);
+    freeze_other(3);
+    keep(words[3]);
     return 0;
 }

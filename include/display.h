@@ -7,8 +7,9 @@
  * AN IMAGE is a run of bytes that holds up to 64 rows. A ROW is a strip that was frozen: a list of bits, position 0
  * first, of a length from 0 to 134,217,728, under a label from 1 to 64. 1 is a misfire, 0 a good firing. The rows
  * form a chain: each row's record tells where the next one stands. image_freeze (strips.h) appends at the chain's
- * end, so that chain order is the order of freezing. A record also holds the row's number of ones and an index of
- * counts, its entries; its bits are padded with zeros to a multiple of 4,096.
+ * end, so that chain order is the order of freezing; image_merge (strips.h) chains the first image's rows, then those
+ * that only the second has. A record also holds the row's number of ones and an index of counts, its entries; its bits
+ * are padded with zeros to a multiple of 4,096.
  *
  * The chain is SOUND when all of this holds: the size is 16 to 2^32 bytes; the header is right; no record reaches out
  * of the image; labels and lengths are in range; no label occurs twice; a record that follows another starts at or
@@ -63,11 +64,13 @@ enum strip_refusal {
     STRIP_BAD_LABEL = 11,     /* a label not from 1 to 64 */
     STRIP_LABEL_PRESENT = 12, /* a row has the label already */
     STRIP_NO_ROOM = 13,       /* image_clear: an image under 16 or over 2^32 bytes; image_freeze: the record would not
-                                 end inside the image */
+                                 end inside the image; image_merge: the result would not end inside the third buffer,
+                                 or that has under 16 or over 2^32 bytes */
     STRIP_LABEL_ABSENT = 14,  /* no row has the label; image_row_label: k not below the number of rows */
     STRIP_WRONG_ROW = 15,     /* a row's ones, entries or padding are not those of its bits */
     STRIP_UNEQUAL = 16,       /* two strips of unequal capacity or unequal length */
-    STRIP_BAD_WINDOW = 17     /* a width not 1 to 65,536, or a number of misfires not 1 to the width */
+    STRIP_BAD_WINDOW = 17,    /* a width not 1 to 65,536, or a number of misfires not 1 to the width */
+    STRIP_CONFLICT = 18       /* a label in two images with rows of unequal length or bits */
 };
 
 /* Whether an answer is a refusal. It is given as the type that the call returns: a uint64_t, or the int64_t of

@@ -16,11 +16,11 @@
  * the first, and every other change the one to go on with.
  *
  * LENDING. A call is lent the elements x[0] to x[x_len - 1] of each buffer x. They are aligned for their type, words
- * and out to 8 bytes, counters to 4, image to 1. The buffers of one call do not overlap, but for the words of two
- * strips, which are only read, and may overlap or be the same; `out` overlaps neither. Nobody else uses what a call
- * writes, or changes what it reads, until it returns. It allocates nothing and keeps nothing. A buffer of length 0 may
- * be NULL. What no call can see is the caller's to keep: that so many elements are there, aligned and apart. All else
- * is judged, and any numbers and any contents may be given.
+ * and out to 8 bytes, counters to 4, images to 1. The buffers of one call do not overlap, but for the words of two
+ * strips, or two images to be merged, which are only read, and may overlap or be the same; what the call writes
+ * overlaps neither. Nobody else uses what a call writes, or changes what it reads, until it returns. It allocates
+ * nothing and keeps nothing. A buffer of length 0 may be NULL. What no call can see is the caller's to keep: that so
+ * many elements are there, aligned and apart. All else is judged, and any numbers and any contents may be given.
  *
  * NUMBERS. Every argument is taken as the 64-bit number that it is, and none is cut: a v of 2^32 + 1 is refused 8, a
  * capacity of 2^32 + 512 is refused 1.
@@ -40,7 +40,8 @@
  * of words for each; the windows that start in one word are tried start by start only where a bound on their ones
  * reaches m. The calls on two strips go over the words of both, each word once: those before i, those up to the stroke
  * found or to the length, those of the span; strip_waiting_find up to the latest position, where there is one, else to
- * the length. The other calls on a strip take constant time.
+ * the length. The other calls on a strip take constant time. image_merge reads both images as image_inspect does; then
+ * the rows of each label that is in both, up to the first eight bytes that differ; then the rows that it copies, once.
  */
 #ifndef STRIPS_H
 #define STRIPS_H
@@ -384,6 +385,30 @@ uint64_t image_clear(uint8_t *image, size_t image_len);
  *   an empty strip                                   accepted, as a row of length 0 with a record of 16 bytes */
 uint64_t image_freeze(uint64_t capacity, uint64_t length, const uint64_t *words, size_t words_len, uint8_t *image,
                       size_t image_len, uint64_t label);
+
+/* merge. Makes one image of two that come from one engine, as of a unit and of the one that replaced it, in a third
+ * buffer, whatever this held: the rows of the first image in chain order, then, in chain order too, those of the second
+ * whose label the first lacks. A label that is in both, with the same length and bits, stands once, at the first
+ * image's place. The result has no gaps: the header, then the records, the first at byte 16, each where the one before
+ * ends. So it has IMAGE_HEADER_BYTES, and IMAGE_RECORD_BYTES(length) for each row; never more than first_len +
+ * second_len - 16. No byte past it changes. image_inspect accepts it, and every reading of a row answers as on the
+ * image that gave the row. The two images are only read, and may overlap or be the same; the third buffer overlaps
+ * neither.
+ * Value: the number of rows of the result, 0 to 64.
+ * Refusals: 10, 15, 10, 15, 18, 13, in this order:
+ *   10, 15   of the first image, as image_inspect gives them
+ *   10, 15   of the second image, likewise
+ *   18       a label is in both images, with rows of unequal length or bits
+ *   13       the result would end past the last byte of the third buffer, or that has under 16 or over 2^32 bytes
+ * So a wrong row in the first image, beside a second whose chain is not sound, is refused 15.
+ *   NULL, 0 as the first or the second image         refused 10
+ *   NULL, 0 or under 16 bytes as the third           refused 13, where nothing before it applies
+ *   two images with no row                           0; the third buffer gets the header of an empty chain
+ *   a second image whose labels the first all has    the first image's rows, with no gaps; or refused 18
+ *   unequal rows of a label, and no room             refused 18
+ *   a result that ends with the third buffer         accepted; with one byte less lent, refused 13 */
+uint64_t image_merge(const uint8_t *first, size_t first_len, const uint8_t *second, size_t second_len, uint8_t *third,
+                     size_t third_len);
 
 #ifdef __cplusplus
 }

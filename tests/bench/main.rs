@@ -4,12 +4,14 @@
 //! freeze; and the calls on two strips, half ones, beside pair.cpp, and those on a strip, half ones, and its waiting
 //! strip, 1/64 marks, beside waiting.cpp. All stand in one run, in alternating rounds. Each measurement asks for fresh
 //! random places, and follows one of the same kind that does not count. Bursts are sought in strips of their own, beside
-//! burst.cpp, a count of the ones and a count that slides bit by bit. Prints lines of tab-separated fields:
+//! burst.cpp, a count of the ones and a count that slides bit by bit. Images of their own are merged, beside
+//! inspections of both and memcpy of the result. Prints lines of tab-separated fields:
 //!   time   power  density  call  column  lower quartile, median, upper quartile, in ns a call
 //!   ratio  power  density  call  columns  the same, over the rounds
 //!   bytes  power  density  what  bytes
 //! `main ROUNDS POWER ..` takes other rounds and sizes, and `main pairs ROUNDS POWER ..` the calls on two strips alone;
-//! `main bursts ROUNDS POWER ..` has the bursts, which the others leave out.
+//! `main bursts ROUNDS POWER ..` has the bursts, and `main merge ROUNDS POWER ..` the merges, of rows of these sizes,
+//! which the others leave out.
 //! `main calls POWER COUNT` only makes COUNT calls of each kind, of the library and by hand, to be counted from outside.
 #[allow(dead_code)]
 #[path = "../src/ffi.rs"]
@@ -20,6 +22,7 @@ mod random;
 
 mod burst;
 mod figures;
+mod merge;
 mod other;
 mod pair;
 mod record;
@@ -29,6 +32,7 @@ mod waiting;
 
 use burst::{Burst, Words, CASES};
 use figures::{quartiles, word};
+use merge::Merge;
 use other::{Roaring, Sdsl};
 use pair::{Pair, Rule};
 use random::Random;
@@ -115,6 +119,7 @@ enum Column {
     Memcpy,
     Ones,
     Sliding,
+    Inspections,
 }
 
 const COLUMNS: [(Column, &str); 10] = [
@@ -134,13 +139,18 @@ const COLUMNS: [(Column, &str); 10] = [
 const BURSTS: [(Column, &str); 5] =
     [COLUMNS[0], COLUMNS[1], COLUMNS[2], (Column::Ones, "count of ones"), (Column::Sliding, "sliding count")];
 
-const RATIOS: [(Column, Column, &str); 6] = [
-    (Column::Library, Column::Hand, "library / C++"),
-    (Column::Again, Column::Hand, "C++ again / C++"),
-    (Column::Library, Column::Checked, "library / C++, checked"),
-    (Column::Library, Column::Passes, "library / two passes"),
-    (Column::Library, Column::Ones, "library / count of ones"),
-    (Column::Sliding, Column::Library, "sliding count / library"),
+/// The columns of the merges.
+const MERGES: [(Column, &str); 3] = [COLUMNS[0], (Column::Inspections, "two inspections"), (Column::Memcpy, "memcpy")];
+
+/// One column over the sum of others.
+const RATIOS: [(Column, &[Column], &str); 7] = [
+    (Column::Library, &[Column::Hand], "library / C++"),
+    (Column::Again, &[Column::Hand], "C++ again / C++"),
+    (Column::Library, &[Column::Checked], "library / C++, checked"),
+    (Column::Library, &[Column::Passes], "library / two passes"),
+    (Column::Library, &[Column::Ones], "library / count of ones"),
+    (Column::Sliding, &[Column::Library], "sliding count / library"),
+    (Column::Library, &[Column::Inspections, Column::Memcpy], "library / two inspections + memcpy"),
 ];
 
 /// The finds on two strips that make a figure.
@@ -273,7 +283,7 @@ impl Bench {
             Column::Sdsl => self.sdsl(call, &q, pace),
             Column::Roaring => self.roaring(call, &q, pace),
             Column::Memcpy if call == Freeze => time(&q, pace, |_| self.row.copy(&self.words)),
-            Column::Passes | Column::Memcpy | Column::Ones | Column::Sliding => Vec::new(),
+            Column::Passes | Column::Memcpy | Column::Ones | Column::Sliding | Column::Inspections => Vec::new(),
         }
     }
 
@@ -569,15 +579,23 @@ fn run<C: Copy>(
             }
         }
         for (over, under, pair) in RATIOS {
-            let place = |column: Column| columns.iter().position(|x| x.0 == column);
-            let (Some(y), Some(z)) = (place(over), place(under)) else { continue };
-            let medians = |y: usize| figures[x][y].iter().filter_map(|f| Some(quartiles(f.clone())?[1]));
-            let ratios = medians(y).zip(medians(z)).map(|(a, b)| a / b).collect();
-            if let Some([a, b, c]) = quartiles(ratios) {
+            if let Some([a, b, c]) = quartiles(ratios(columns, &figures[x], over, under)) {
                 println!("ratio\t{at}\t{name}{note}\t{pair}\t{a:.3}\t{b:.3}\t{c:.3}");
             }
         }
     }
+}
+
+/// The rounds' ratios: the median of one column over the sum of those of others. None where one was not measured.
+fn ratios(columns: &[(Column, &str)], figures: &[Vec<Vec<f64>>], over: Column, under: &[Column]) -> Vec<f64> {
+    let medians = |column: Column| {
+        let y = columns.iter().position(|x| x.0 == column)?;
+        figures[y].iter().map(|f| Some(quartiles(f.clone())?[1])).collect::<Option<Vec<f64>>>()
+    };
+    let under: Option<Vec<_>> = under.iter().map(|column| medians(*column)).collect();
+    let (Some(over), Some(under)) = (medians(over), under) else { return Vec::new() };
+    let sum = |number: usize| under.iter().map(|x| x[number]).sum::<f64>();
+    over.iter().enumerate().map(|(number, x)| x / sum(number)).collect()
 }
 
 /// The bytes of this process that lie in pages of 2 MiB.
@@ -641,6 +659,31 @@ fn bursts(power: u32, rounds: usize) {
     }
 }
 
+/// One measurement of a merge, or of what it is held against: four figures, of many calls each where images are short.
+fn measure_merge(merge: &mut Merge, column: Column) -> Vec<f64> {
+    let part = ((1 << 20) / merge.bytes().0).clamp(1, 100);
+    let (q, pace) = (vec![0; 4 * part], Pace { part, waits: false });
+    match column {
+        Column::Library => time(&q, pace, |_| merge.library()),
+        Column::Inspections => time(&q, pace, |_| merge.inspections()),
+        Column::Memcpy => time(&q, pace, |_| merge.copy()),
+        _ => Vec::new(),
+    }
+}
+
+/// The merges of two images of rows of 2^power bits.
+fn merges(power: u32, rounds: usize) {
+    for case in merge::CASES {
+        let (mut merge, at) = (Merge::new(power, case), format!("{power}\t32/64"));
+        merge.compare(case);
+        let (image, result) = merge.bytes();
+        for (what, bytes) in [("an image", image), ("the result", result)] {
+            println!("bytes\t{at}\t{}, {what}\t{bytes}", case.name);
+        }
+        run(&at, &[((), case.name)], &MERGES, "", rounds, |(), column| measure_merge(&mut merge, column));
+    }
+}
+
 /// As many calls of each kind, for a counter of instructions; those that go over words a hundredth of them.
 fn calls(power: u32, count: usize) {
     let mut bench = Bench::new(power, 32, false, false);
@@ -658,46 +701,50 @@ fn calls(power: u32, count: usize) {
     time(&q, PACE, |m| burst.hand(m));
 }
 
+/// The calls on one strip and its row, those on two strips, and count, find and turn alone.
+fn strips(power: u32, rounds: usize) {
+    for share in [1, 32, 63] {
+        let mut bench = Bench::new(power, share, false, true);
+        bench.compare();
+        let (sdsl, roaring) = (bench.sdsl.as_ref().map(Sdsl::bytes), bench.roaring.as_ref().map(Roaring::bytes));
+        let kinds = [("sdsl rank", sdsl.map(|s| s.0)), ("sdsl select", sdsl.map(|s| s.1)), ("CRoaring", roaring)];
+        for (what, bytes) in kinds {
+            if let Some(bytes) = bytes {
+                println!("bytes\t{power}\t{share}/64\t{what}\t{bytes}");
+            }
+        }
+        bench.run(&CALLS, &COLUMNS, "", rounds);
+        if share == 32 {
+            bench.two_strips(rounds);
+        }
+    }
+    let calls = [(Count, "count"), (Find(1), "find 1"), (Turn, "turn")];
+    for (note, huge, waits) in KINDS {
+        let mut bench = Bench::new(power, 32, huge, false);
+        bench.waits = waits;
+        bench.run(&calls, &COLUMNS[..3], note, rounds);
+        println!("bytes\t{power}\t32/64\tin 2 MiB pages{note}\t{}", huge_bytes());
+    }
+}
+
 fn main() {
     let mut arguments = std::env::args().skip(1).peekable();
-    let mode = arguments.next_if(|x| ["calls", "pairs", "bursts"].contains(&x.as_str())).unwrap_or_default();
+    let mode = arguments.next_if(|x| ["calls", "pairs", "bursts", "merge"].contains(&x.as_str())).unwrap_or_default();
     let numbers: Vec<usize> = arguments.map(|x| x.parse().expect("a number")).collect();
     if mode == "calls" {
         return calls(numbers[0] as u32, numbers[1]);
     }
     let rounds = numbers.first().copied().unwrap_or(20);
-    let powers: Vec<u32> = numbers.iter().skip(1).map(|x| *x as u32).collect();
-    for power in if powers.is_empty() { vec![20, 24, 27] } else { powers } {
-        if mode == "pairs" {
-            let mut bench = Bench::new(power, 32, false, false);
-            bench.two_strips(rounds);
-            continue;
-        }
-        if mode == "bursts" {
-            bursts(power, rounds);
-            continue;
-        }
-        for share in [1, 32, 63] {
-            let mut bench = Bench::new(power, share, false, true);
-            bench.compare();
-            let (sdsl, roaring) = (bench.sdsl.as_ref().map(Sdsl::bytes), bench.roaring.as_ref().map(Roaring::bytes));
-            let kinds = [("sdsl rank", sdsl.map(|s| s.0)), ("sdsl select", sdsl.map(|s| s.1)), ("CRoaring", roaring)];
-            for (what, bytes) in kinds {
-                if let Some(bytes) = bytes {
-                    println!("bytes\t{power}\t{share}/64\t{what}\t{bytes}");
-                }
-            }
-            bench.run(&CALLS, &COLUMNS, "", rounds);
-            if share == 32 {
-                bench.two_strips(rounds);
-            }
-        }
-        let calls = [(Count, "count"), (Find(1), "find 1"), (Turn, "turn")];
-        for (note, huge, waits) in KINDS {
-            let mut bench = Bench::new(power, 32, huge, false);
-            bench.waits = waits;
-            bench.run(&calls, &COLUMNS[..3], note, rounds);
-            println!("bytes\t{power}\t32/64\tin 2 MiB pages{note}\t{}", huge_bytes());
+    let mut powers: Vec<u32> = numbers.iter().skip(1).map(|x| *x as u32).collect();
+    if powers.is_empty() {
+        powers = if mode == "merge" { vec![6, 18, 23] } else { vec![20, 24, 27] };
+    }
+    for power in powers {
+        match mode.as_str() {
+            "pairs" => Bench::new(power, 32, false, false).two_strips(rounds),
+            "bursts" => bursts(power, rounds),
+            "merge" => merges(power, rounds),
+            _ => strips(power, rounds),
         }
     }
     if mode.is_empty() {

@@ -28,11 +28,13 @@ _Static_assert(STRIP_LABEL_ABSENT == 14, "refusal 14");
 _Static_assert(STRIP_WRONG_ROW == 15, "refusal 15");
 _Static_assert(STRIP_UNEQUAL == 16, "refusal 16");
 _Static_assert(STRIP_BAD_WINDOW == 17, "refusal 17");
+_Static_assert(STRIP_CONFLICT == 18, "refusal 18");
 
 _Static_assert(!STRIP_REFUSED(0) && !STRIP_REFUSED(UINT32_MAX), "values");
 _Static_assert(STRIP_REFUSED((UINT64_C(1) << 32) + 1) && STRIP_REFUSED(UINT64_MAX), "refusals");
 _Static_assert(STRIP_REFUSAL((UINT64_C(1) << 32) + 15) == STRIP_WRONG_ROW, "a refusal");
 _Static_assert(STRIP_REFUSAL((UINT64_C(1) << 32) + 17) == STRIP_BAD_WINDOW, "a refusal");
+_Static_assert(STRIP_REFUSAL((UINT64_C(1) << 32) + 18) == STRIP_CONFLICT, "a refusal");
 
 /* Of a signed answer: a negative value is no refusal. */
 _Static_assert(!STRIP_REFUSED(INT64_C(-1)) && !STRIP_REFUSED(-(int64_t)LARGEST) && !STRIP_REFUSED(INT64_MIN), "values");

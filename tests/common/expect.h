@@ -11,7 +11,7 @@ static int failed = 0;
 
 static inline void print_answer(uint64_t answer)
 {
-    if (STRIP_REFUSED(answer) && answer <= REFUSED(STRIP_BAD_WINDOW))
+    if (STRIP_REFUSED(answer) && answer <= REFUSED(STRIP_CONFLICT))
         printf("refused %d", (int)STRIP_REFUSAL(answer));
     else
         printf("%" PRIu64, answer);

@@ -1,7 +1,7 @@
 /* What calls may tell, by the documents' definitions: the sizes, the readings of a strip's words, of two strips' words
  * and of a strip with strokes that wait, and on an image the chain, whether each row is right, clear, freeze, inspect,
- * opening, the labels and lengths of rows, and their readings. Of the library's nothing is used but the refusals'
- * numbers. */
+ * opening, the labels and lengths of rows, and their readings; and the merge of two images. Of the library's nothing is
+ * used but the refusals' numbers. */
 #ifndef JUDGE_H
 #define JUDGE_H
 
@@ -11,6 +11,7 @@
 
 #include <stddef.h>
 #include <stdint.h>
+#include <string.h>
 
 enum { ROWS = 64 };
 
@@ -148,6 +149,69 @@ static inline uint64_t inspect_answer(const struct judged *j)
         if (!j->rows[r].right)
             return REFUSED(STRIP_WRONG_ROW);
     return j->count;
+}
+
+/* ---- the merge of two images */
+
+/* The rows of a merge, in order, and its bytes. */
+struct merged {
+    unsigned count;
+    const struct row *rows[ROWS];
+    uint64_t size;
+};
+
+/* Whether two rows have one length and the same bits. */
+static inline int rows_equal(const struct row *x, const struct row *y)
+{
+    if (x->length != y->length || memcmp(x->bits, y->bits, x->length / 8) != 0)
+        return 0;
+    for (uint64_t p = x->length / 8 * 8; p < x->length; p++)
+        if (bit(x->bits, p) != bit(y->bits, p))
+            return 0;
+    return 1;
+}
+
+static inline void take_row(struct merged *m, const struct row *row)
+{
+    m->rows[m->count++] = row;
+    m->size += record_size(row->length);
+}
+
+/* merge into a third buffer of so many bytes: 10 and 15 of the first image, 10 and 15 of the second, 18, 13, or the
+ * number of rows. The rows are in `m` where it is not refused, or refused by 13 alone. */
+static inline uint64_t merge_answer(struct merged *m, const struct judged *first, const struct judged *second,
+                                    uint64_t third_size)
+{
+    *m = (struct merged){.size = 16};
+    if (STRIP_REFUSED(inspect_answer(first)))
+        return inspect_answer(first);
+    if (STRIP_REFUSED(inspect_answer(second)))
+        return inspect_answer(second);
+    for (unsigned r = 0; r < first->count; r++)
+        take_row(m, &first->rows[r]);
+    for (unsigned r = 0; r < second->count; r++) {
+        const struct row *own = row_of(first, second->rows[r].label);
+        if (own == NULL)
+            take_row(m, &second->rows[r]);
+        else if (!rows_equal(own, &second->rows[r]))
+            return REFUSED(STRIP_CONFLICT);
+    }
+    return third_size < m->size || third_size > WIDE ? REFUSED(STRIP_NO_ROOM) : m->count;
+}
+
+/* Whether an image is a merge: these rows, each at its place and right. */
+static inline int merge_written(const struct merged *m, const struct judged *j)
+{
+    uint64_t start = 16;
+    if (!j->sound || j->count != m->count)
+        return 0;
+    for (unsigned r = 0; r < j->count; r++) {
+        const struct row *row = &j->rows[r];
+        if (row->start != start || row->label != m->rows[r]->label || !row->right || !rows_equal(row, m->rows[r]))
+            return 0;
+        start += record_size(row->length);
+    }
+    return 1;
 }
 
 /* ---- readings: of a row that was opened, or of none, which all get the refusal met before */

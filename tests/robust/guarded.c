@@ -3,12 +3,12 @@
  *     guarded end|start ROUNDS SEED [ROUND]
  *
  * All buffers end, or all start, at a closed page. What a call may only read is lent through a view that cannot be
- * written. Each round draws a record, an image and two strips, and makes calls of every kind on them; round 0 is that
+ * written. Each round draws a record, two images and two strips, and makes calls of every kind on them; round 0 is that
  * of the largest. A round draws from the seed and its number, which a failure tells; with ROUND it runs alone. Held
  * here is that a call touches nothing that was not lent, tells nothing that it may not tell, and changes nothing where
- * it is refused or only reads; the sizes, look, next, prior, burst, the eight calls on two strips, freezing, opening,
- * the labels and lengths of rows and their readings are held to common/judge.h in full. At the end of all rounds every
- * function has been accepted and has met every refusal of its line. */
+ * it is refused or only reads; the sizes, look, next, prior, burst, the eight calls on two strips, freezing, merging,
+ * opening, the labels and lengths of rows and their readings are held to common/judge.h in full. At the end of all
+ * rounds every function has been accepted and has met every refusal of its line. */
 #include "lend.h"
 
 #include "judge.h"
@@ -27,8 +27,8 @@ enum { MOST_IMAGE = 16 + 16 + 528 * 32768 + 64, SCRIPT = 24 };
 enum call {
     COUNTER_COUNT, CREATE, PUSH, FLIP, FILL, TRUNCATE, GET, RANK, SELECT, SUCCESSOR, PREDECESSOR, BURST, VERIFY,
     PAIR_BOTH, PAIR_EITHER, PAIR_ONLY_FIRST, PAIR_DIFFER, PAIR_FIND, PAIR_SPAN, WAITING_COUNT, WAITING_FIND,
-    RECORD_SIZE, CLEAR, FREEZE, INSPECT, ROW_RANK, ROW_SELECT, ROW_GET, ROW_LENGTH, ROW_LABEL, SELECT_IN_WORD, OPEN,
-    PART_GET, PART_RANK, PART_SELECT, OPENED_GET, OPENED_RANK, OPENED_SELECT, EXECUTE, STEP, CALLS
+    RECORD_SIZE, CLEAR, FREEZE, MERGE, INSPECT, ROW_RANK, ROW_SELECT, ROW_GET, ROW_LENGTH, ROW_LABEL, SELECT_IN_WORD,
+    OPEN, PART_GET, PART_RANK, PART_SELECT, OPENED_GET, OPENED_RANK, OPENED_SELECT, EXECUTE, STEP, CALLS
 };
 
 #define R(n) (1u << (n))
@@ -69,6 +69,7 @@ static const struct {
     [CLEAR] = {"image_clear", R(STRIP_NO_ROOM)},
     [FREEZE] = {"image_freeze",
                 HANDLE | R(STRIP_UNSOUND) | R(STRIP_BAD_LABEL) | R(STRIP_LABEL_PRESENT) | R(STRIP_NO_ROOM)},
+    [MERGE] = {"image_merge", R(STRIP_UNSOUND) | R(STRIP_WRONG_ROW) | R(STRIP_CONFLICT) | R(STRIP_NO_ROOM)},
     [INSPECT] = {"image_inspect", R(STRIP_UNSOUND) | R(STRIP_WRONG_ROW)},
     [ROW_RANK] = {"image_row_rank", OPENING | COUNTING},
     [ROW_SELECT] = {"image_row_select", OPENING | FINDING},
@@ -108,7 +109,7 @@ static void expect(enum call call, int holds, const char *what)
 /* Notes a refusal's number, 0 where the call was accepted. */
 static void note(enum call call, uint64_t refusal)
 {
-    expect(call, refusal == 0 || (refusal <= STRIP_BAD_WINDOW && functions[call].refusals >> refusal & 1),
+    expect(call, refusal == 0 || (refusal <= STRIP_CONFLICT && functions[call].refusals >> refusal & 1),
            "a refusal not of its line");
     calls[call]++;
     met[call] |= 1u << refusal;
@@ -219,7 +220,8 @@ static size_t size_near(size_t n)
 /* ---- what is lent */
 
 static int at_end;
-static struct memory words_memory, second_memory, counters_memory, image_memory, part_memory, out_memory, script_memory;
+static struct memory words_memory, second_memory, counters_memory, image_memory, other_memory, third_memory,
+    most_memory, part_memory, out_memory, script_memory;
 
 /* The address to lend: of no bytes it may be NULL. */
 static void *lent_at(struct lent l, int writable)
@@ -257,7 +259,7 @@ static int same(const struct copy *c, struct lent l)
     return l.length == 0 || memcmp(c->bytes, l.write, l.length) == 0;
 }
 
-static struct copy words_copy, counters_copy, image_copy;
+static struct copy words_copy, counters_copy, image_copy, third_copy;
 
 /* ---- a record */
 
@@ -815,6 +817,127 @@ static void read_part(void)
     give_back(part);
 }
 
+/* ---- two images, and a third buffer */
+
+/* An image as it is lent, and what the judge finds in it. */
+struct held {
+    struct lent lent;
+    struct judged judged;
+};
+
+#define HELD(h) ((const uint8_t *)lent_at((h)->lent, 0)), (h)->lent.length
+
+/* Turns one of so many bits; at times one of the last, or one more beside it, so that the number of ones stays. */
+static void alter(uint8_t *bits, uint64_t length)
+{
+    uint64_t p = one_in(3) ? length - 1 - below(length < 8 ? length : 8) : below(length);
+    if (p > 0 && bit(bits, p - 1) != bit(bits, p) && !one_in(3))
+        bits[(p - 1) / 8] ^= 1 << ((p - 1) % 8);
+    bits[p / 8] ^= 1 << (p % 8);
+}
+
+/* One more row of the image, past a gap at times, where there is room and no row has the label: so many of these bits,
+ * altered at times. */
+static void append_row(uint64_t label, uint64_t length, const uint8_t *bits)
+{
+    uint64_t link = judged.count == 0 ? 0 : judged.rows[judged.count - 1].start;
+    uint64_t start = next_start(&judged) + (one_in(4) ? 16 * below(4) : 0);
+    if (row_of(&judged, label) != NULL || start + record_size(length) > image.length)
+        return;
+    gaps(open_bytes);
+    uint8_t *record = image.write + start, *to = record + 16 + 16 * superblocks(length);
+    memset(record, 0, record_size(length));
+    store(record + 4, 4, label);
+    store(record + 8, 4, length);
+    memcpy(to, bits, (length + 7) / 8);
+    if (length > 0 && one_in(8))
+        alter(to, length);
+    make_right(record);
+    store(image.write + link, 4, start / 16);
+    settle();
+}
+
+/* Another image, in the place of the first: of its rows some, at times a bit shorter, and others; damaged at times. */
+static void draw_other(const struct held *first, const struct record *r)
+{
+    uint64_t size = 16 + below(4000);
+    for (unsigned k = 0; k < first->judged.count; k++)
+        size += record_size(first->judged.rows[k].length);
+    image = lend(&other_memory, size, at_end);
+    settle();
+    clear();
+    for (unsigned k = 0; k < first->judged.count; k++) {
+        const struct row *row = &first->judged.rows[k];
+        if (one_in(3))
+            freeze(r, 1 + below(64));
+        if (!one_in(3))
+            append_row(row->label, row->length - (row->length > 0 && one_in(12)), row->bits);
+    }
+    freeze(r, 1 + below(64));
+    if (one_in(6))
+        damage();
+}
+
+/* The size of a third buffer where so many bytes are needed. */
+static size_t third_size(uint64_t needed)
+{
+    switch (below(6)) {
+    case 0: return sizes[below(COUNT_OF(sizes))];
+    case 1: return near(needed);
+    case 2: return needed + below(200);
+    case 3: return below(needed);
+    default: return needed;
+    }
+}
+
+/* Where a merge is accepted its bytes are set and are those of the result, and the bytes after them are as they were;
+ * else all are. */
+static void merge_wrote(struct lent third, const struct merged *m, int accepted)
+{
+    static struct judged result;
+    size_t end = accepted ? m->size : 0;
+    expect(MERGE, VALGRIND_CHECK_MEM_IS_DEFINED(third.write, end) == 0, "left a byte unset");
+    VALGRIND_MAKE_MEM_DEFINED(third.write, third.length);
+    expect(MERGE, third.length == end || memcmp(third_copy.bytes + end, third.write + end, third.length - end) == 0,
+           accepted ? "wrote past the result" : "refused, and changed the third buffer");
+    if (!accepted)
+        return;
+    judge(&result, third.write, third.length);
+    expect(MERGE, merge_written(m, &result), "another result");
+}
+
+/* A merge, held to the judge. What the third buffer holds is marked as not set. */
+static void merge(const struct held *first, const struct held *second)
+{
+    struct merged m;
+    merge_answer(&m, &first->judged, &second->judged, WIDE);
+    struct lent third = lend(&third_memory, third_size(m.size), at_end);
+    uint64_t wanted = merge_answer(&m, &first->judged, &second->judged, third.length);
+    memset(third.write, below(256), third.length);
+    bytes_drawn(third.write, third.length < PAGE ? third.length : PAGE, below(4));
+    keep(&third_copy, third);
+    VALGRIND_MAKE_MEM_UNDEFINED(third.write, third.length);
+    hold(MERGE, image_merge(HELD(first), HELD(second), lent_at(third, 1), third.length), wanted);
+    merge_wrote(third, &m, !STRIP_REFUSED(wanted));
+    give_back(third);
+}
+
+/* The image and another, merged so many times in either order. */
+static void two_images(const struct record *r, unsigned times)
+{
+    struct held first = {image, judged}, second;
+    draw_other(&first, r);
+    second = (struct held){image, judged};
+    for (unsigned k = 0; k < times; k++) {
+        merge(&first, &second);
+        merge(&second, &first);
+    }
+    gaps(open_bytes);
+    give_back(image);
+    image = first.lent;
+    judged = first.judged;
+}
+
 /* ---- scripts */
 
 static int changes_record(uint64_t op)
@@ -960,6 +1083,7 @@ static void largest_record(void)
         read_label(64);
     for (uint64_t k = 0; k < LARGEST / 2; k += LARGEST / 16 - 1)
         read_label_at(64, k % 2, k, k);
+    two_images(&r, 1);
     gaps(open_bytes);
     give_back(image);
     give_back(r.words);
@@ -1019,11 +1143,8 @@ static void largest_burst(void)
 /* An image of about 2^32 bytes with one row of `length` zeros at its end. Bytes that no call touches take no memory. */
 static void largest_image(size_t size, uint64_t length)
 {
-    static struct memory most;
     static const uint8_t kind[16] = {0, 0, 0, 0, 1};
-    if (most.size == 0)
-        most = memory_of(WIDE + PAGE);
-    image = lend(&most, size, at_end);
+    image = lend(&most_memory, size, at_end);
     uint64_t start = (WIDE - record_size(length)) / 16 * 16;
     uint8_t record[16] = {0, 0, 0, 0, 7, 0, 0, 0, (uint8_t)length, (uint8_t)(length >> 8)};
     memcpy(image.write, kind, 16);
@@ -1037,6 +1158,7 @@ static void largest_image(size_t size, uint64_t length)
     for (unsigned k = 0; k < 8; k++)
         read_label(one_in(4) ? label_near(&judged) : 7);
     struct record r = drawn_record(1024);
+    two_images(&r, 3);
     freeze(&r, 8);
     clear();
     freeze(&r, 9);
@@ -1045,6 +1167,39 @@ static void largest_image(size_t size, uint64_t length)
     give_back(image);
     give_back(r.words);
     give_back(r.counters);
+}
+
+/* A third buffer of about 2^32 bytes. */
+static void largest_third(size_t size)
+{
+    static const uint8_t bits[1] = {10};
+    static struct judged result;
+    struct held images[2];
+    struct merged m;
+    struct memory *const of[2] = {&image_memory, &other_memory};
+    for (int k = 0; k < 2; k++) {
+        image = lend(of[k], 700, at_end);
+        settle();
+        clear();
+        append_row(3 + k, 5, bits);
+        images[k] = (struct held){image, judged};
+    }
+    struct lent third = lend(&most_memory, size, at_end);
+    memset(third.write, 0xa5, PAGE);
+    uint64_t wanted = merge_answer(&m, &images[0].judged, &images[1].judged, size);
+    hold(MERGE, image_merge(HELD(&images[0]), HELD(&images[1]), third.write, size), wanted);
+    judge(&result, third.write, size);
+    expect(MERGE, STRIP_REFUSED(wanted) || merge_written(&m, &result), "another result");
+    for (size_t b = STRIP_REFUSED(wanted) ? 0 : m.size; b < PAGE; b++)
+        expect(MERGE, third.write[b] == 0xa5, "wrote to another byte");
+    memset(third.write, 0, PAGE);
+    give_back(third);
+    for (int k = 0; k < 2; k++) {
+        image = images[k].lent;
+        judged = images[k].judged;
+        gaps(open_bytes);
+        give_back(image);
+    }
 }
 
 static void one_round(void)
@@ -1056,6 +1211,7 @@ static void one_round(void)
         read_label(label_near(&judged));
         read_part();
     }
+    two_images(&r, 3);
     for (unsigned k = 0; k < 6; k++)
         step(&r);
     if (one_in(3))
@@ -1075,6 +1231,8 @@ static void largest_round(void)
     for (int off = -1; off <= 1; off++)
         for (uint64_t length = 0; length <= 300; length += 300)
             largest_image(WIDE + off, length);
+    for (int off = -1; off <= 1; off++)
+        largest_third(WIDE + off);
     largest_waiting();
     largest_burst();
 }
@@ -1114,6 +1272,9 @@ int main(int count, char **args)
     second_memory = memory_of(LARGEST / 8);
     counters_memory = memory_of(4 * MOST_COUNTERS);
     image_memory = memory_of(MOST_IMAGE);
+    other_memory = memory_of(MOST_IMAGE + PAGE);
+    third_memory = memory_of(2 * (MOST_IMAGE + PAGE));
+    most_memory = memory_of(WIDE + PAGE);
     part_memory = memory_of(MOST_IMAGE);
     out_memory = memory_of(PAGE);
     script_memory = memory_of(PAGE);

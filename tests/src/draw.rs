@@ -1,8 +1,10 @@
-//! Calls, queries, comparisons, calls on waiting strokes and bursts drawn at random, their arguments around what they meet.
-use crate::borders::{BAD_CAPACITIES, BAD_VALUES, FAR, LARGEST, UNITS, WIDE, WIDEST};
+//! Calls, queries, comparisons, calls on waiting strokes and bursts drawn at random, their arguments around what they meet; the
+//! labels of rows, positions on a row, and damage to an image.
+use crate::borders::{beside, BAD_CAPACITIES, BAD_VALUES, FAR, LARGEST, SMALL, UNITS, WIDE, WIDEST};
 use crate::burst::Burst;
 use crate::call::{Call, Opcode, CALLS};
-use crate::model::{self, number_of};
+use crate::layout;
+use crate::model::{self, length, number_of};
 use crate::pair::Comparison;
 use crate::paper::Frozen;
 use crate::query::Query;
@@ -236,6 +238,41 @@ pub fn burst(random: &mut Random, counts: &[u32]) -> Burst {
         _ => 1 + random.number_below(most + 1),
     };
     Burst { w, m }
+}
+
+/// So many different labels, in any order.
+pub fn labels(random: &mut Random, number: usize) -> Vec<u64> {
+    let mut rest: Vec<u64> = (1..=64).collect();
+    (0..number).map(|_| rest.swap_remove(random.below(rest.len()))).collect()
+}
+
+/// Positions around the ends of words, blocks, superblocks and the row, around the number of ones and of zeros, far past the
+/// row, and some at random.
+pub fn positions(random: &mut Random, bits: &[bool], some: usize) -> Vec<u64> {
+    let mut list = [&SMALL[..], &FAR].concat();
+    for edge in [length(bits), number_of(bits, true), number_of(bits, false)] {
+        list.extend(beside(edge));
+    }
+    list.extend((0..some).map(|_| random.number_below(length(bits) + 3)));
+    list
+}
+
+/// Flips a bit of a row's ones, entries or padding.
+pub fn damage(random: &mut Random, part: &mut [u8]) {
+    let length = layout::number(part, 8) as usize;
+    let start = 128 + 128 * length.div_ceil(4096);
+    let bit = 96 + random.below(8 * part.len() - length - 96);
+    let bit = if bit < start { bit } else { bit + length };
+    part[bit / 8] ^= 1 << (bit % 8);
+}
+
+/// Changes so many bytes of the header and of the first numbers of records, in an image with a sound chain.
+pub fn change_numbers(random: &mut Random, image: &mut [u8], times: usize) {
+    let places = [vec![0], layout::chain(image).unwrap()].concat();
+    for _ in 0..times {
+        let at = places[random.below(places.len())] + random.below(16);
+        image[at] = [random.number() as u8, random.below(70) as u8, image[at] ^ 1 << random.below(8)][random.below(3)];
+    }
 }
 
 /// The call of an opcode; the opcode has a multiple of 17 added at times.

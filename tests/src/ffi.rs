@@ -202,6 +202,14 @@ extern "C" {
         image_len: usize,
         label: u64,
     ) -> u64;
+    pub fn image_merge(
+        first: *const u8,
+        first_len: usize,
+        second: *const u8,
+        second_len: usize,
+        third: *mut u8,
+        third_len: usize,
+    ) -> u64;
 
     // of libtesting.a
     pub fn strip_select_in_word(x: u64, k: u64) -> u64;

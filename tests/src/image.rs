@@ -1,9 +1,9 @@
-//! Bytes lent to the proved calls on an image. Each call is given a buffer of its own, between guards, and each reading is
-//! asserted to leave it as it was.
+//! Bytes lent to the proved calls on an image. Each call is given buffers of its own, between guards, and is asserted to leave
+//! those that it only reads as they were.
 use crate::ffi::{
-    image_clear, image_freeze, image_inspect, image_open, image_opened_get, image_opened_rank, image_opened_select,
-    image_part_get, image_part_rank, image_part_select, image_record_size, image_row_get, image_row_label,
-    image_row_length, image_row_rank, image_row_select,
+    image_clear, image_freeze, image_inspect, image_merge, image_open, image_opened_get, image_opened_rank,
+    image_opened_select, image_part_get, image_part_rank, image_part_select, image_record_size, image_row_get,
+    image_row_label, image_row_length, image_row_rank, image_row_select,
 };
 use crate::guarded::Guarded;
 use crate::refusal::{answer, Answer, Refusal};
@@ -11,24 +11,29 @@ use crate::waiting::Pointers;
 use crate::{Handle, Lent};
 
 /// Runs a call on bytes between two guards.
-fn run(bytes: &[u8], call: impl FnOnce(*mut u8, usize) -> u64) -> (Answer, Guarded<u8>) {
+fn run(bytes: &[u8], call: impl FnOnce(*mut u8, usize) -> u64) -> (u64, Guarded<u8>) {
     let mut lent = Guarded::new(bytes, 0xa5);
     let (memory, size) = lent.lend();
     let told = call(memory, size);
     assert!(lent.intact(), "a call wrote to a guard");
-    (answer(told), lent)
+    (told, lent)
+}
+
+/// What a call tells that only reads these bytes.
+fn told_of(bytes: &[u8], call: impl FnOnce(*const u8, usize) -> u64) -> u64 {
+    let (told, lent) = run(bytes, |memory, size| call(memory, size));
+    assert!(lent.numbers() == bytes, "a call wrote to what it only reads");
+    told
 }
 
 fn change(bytes: &mut [u8], call: impl FnOnce(*mut u8, usize) -> u64) -> Answer {
     let (told, lent) = run(bytes, call);
     bytes.copy_from_slice(lent.numbers());
-    told
+    answer(told)
 }
 
 fn reading(bytes: &[u8], call: impl FnOnce(*const u8, usize) -> u64) -> Answer {
-    let (told, lent) = run(bytes, |memory, size| call(memory, size));
-    assert!(lent.numbers() == bytes, "a reading wrote");
-    told
+    answer(told_of(bytes, call))
 }
 
 /// clear
@@ -52,6 +57,13 @@ pub fn freeze(h: Handle, words: &[u64], image: &mut [u8], label: u64) -> Answer 
 /// The pointer is to so many words, which live through the call.
 pub unsafe fn freeze_from((h, words, count): Pointers, image: &mut [u8], label: u64) -> Answer {
     change(image, |bytes, size| unsafe { image_freeze(h.capacity, h.length, words, count, bytes, size, label) })
+}
+
+/// merge
+pub fn merge(first: &[u8], second: &[u8], third: &mut [u8]) -> Answer {
+    change(third, |to, room| {
+        told_of(first, |xs, nx| told_of(second, |ys, ny| unsafe { image_merge(xs, nx, ys, ny, to, room) }))
+    })
 }
 
 /// The bytes of a row's record.

@@ -1,7 +1,7 @@
 //! The proved calls, to be compared with a plain model of them. The calls: those on words here, the one that seeks a burst in
 //! `burst`, those on two strips' words in `pair`, those on a strip and its waiting strip in `waiting`, those on a record in
-//! `record`, those on an image in `image`, the queries in `query`, and scripts of calls in `script`. The model: strips and rows
-//! in `model`, the image's bytes in `layout`, the paper machine in `paper`.
+//! `record`, those on images in `image`, the queries in `query`, and scripts of calls in `script`. The model: strips and rows
+//! in `model`, the image's bytes in `layout`, the merge of two images in `merge`, the paper machine in `paper`.
 pub mod borders;
 pub mod burst;
 pub mod call;
@@ -11,6 +11,7 @@ pub mod ffi;
 mod guarded;
 pub mod image;
 pub mod layout;
+pub mod merge;
 pub mod model;
 pub mod pages;
 pub mod pair;

@@ -37,6 +37,11 @@ pub fn bits_of(words: &[u64]) -> Vec<bool> {
     bits
 }
 
+/// The bits of a text of zeros and ones.
+pub fn text(bits: &str) -> Vec<bool> {
+    bits.chars().map(|c| c == '1').collect()
+}
+
 /// The number of words of a capacity.
 pub fn word_count(capacity: u64) -> usize {
     capacity as usize / 64

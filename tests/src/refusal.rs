@@ -28,7 +28,7 @@ pub enum Refusal {
     BadLabel = 11,
     /// a row has the label already
     LabelPresent = 12,
-    /// an image under 16 or over 2^32 bytes, or no room for the record
+    /// an image under 16 or over 2^32 bytes, or no room for the record or the merged rows
     NoRoom = 13,
     /// no row has the label
     LabelAbsent = 14,
@@ -38,10 +38,12 @@ pub enum Refusal {
     Unequal = 16,
     /// a width not from 1 to 65,536, or a number of misfires not from 1 to the width
     BadWindow = 17,
+    /// a label in both of two images, with unequal rows
+    Conflict = 18,
 }
 
 /// All refusals, in the order of their numbers.
-pub const REFUSALS: [Refusal; 17] = [
+pub const REFUSALS: [Refusal; 18] = [
     BadHandle,
     WordCount,
     CounterCount,
@@ -59,6 +61,7 @@ pub const REFUSALS: [Refusal; 17] = [
     WrongRow,
     Unequal,
     BadWindow,
+    Conflict,
 ];
 
 /// The answer of a call that tells one value.

@@ -40,7 +40,7 @@ impl Strip {
 
     /// `text` at the start, all the same bits past it; capacity 512.
     pub fn from_text(text: &str, past: bool) -> Strip {
-        let mut bits: Vec<bool> = text.chars().map(|c| c == '1').collect();
+        let mut bits = model::text(text);
         let length = model::length(&bits);
         bits.resize(512, past);
         Strip::new(length, bits)

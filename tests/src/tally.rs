@@ -1,6 +1,7 @@
-//! What calls, queries, comparisons, calls on waiting strokes and bursts told, counted.
+//! What calls, queries, comparisons, calls on waiting strokes, bursts and merges told, counted.
 use crate::burst;
 use crate::call::{Call, Opcode, CALLS};
+use crate::merge;
 use crate::pair::{Comparison, COMPARISONS};
 use crate::query::{Query, QUERIES};
 use crate::refusal::{Answer, Bounded, Refusal, Signed, Values, REFUSALS};
@@ -39,6 +40,7 @@ pub struct Tally {
     comparisons: [Told; COMPARISONS.len()],
     waiting: [Told; WAITING.len()],
     bursts: Told,
+    merges: Told,
 }
 
 impl Tally {
@@ -60,6 +62,10 @@ impl Tally {
 
     pub fn note_burst(&mut self, told: Answer) {
         self.bursts.note(told.err());
+    }
+
+    pub fn note_merge(&mut self, told: Answer) {
+        self.merges.note(told.err());
     }
 
     /// Whether a call was ever made.
@@ -92,6 +98,11 @@ impl Tally {
         self.bursts.expect("burst", &burst::REFUSALS, what);
     }
 
+    /// Asserts that a merge was accepted, and that every refusal that it can meet was met and no other.
+    pub fn expect_merges(&self, what: &str) {
+        self.merges.expect("merge", &merge::REFUSALS, what);
+    }
+
     /// Prints how many calls of each kind were made, and how often each refusal was met.
     pub fn print(&self, what: &str) {
         let adds = self.calls[Opcode::Push as usize].sum();
@@ -100,6 +111,7 @@ impl Tally {
         print(what, "comparisons", &self.comparisons);
         print(what, "calls on waiting strokes", &self.waiting);
         print(what, "bursts", std::slice::from_ref(&self.bursts));
+        print(what, "merges", std::slice::from_ref(&self.merges));
     }
 }
 

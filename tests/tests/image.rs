@@ -1,13 +1,14 @@
 //! The calls on an image, against the plain model of them and of the layout.
-use strip_tests::borders::{beside, FAR, LABELS, LARGEST, MOST_BYTES, SIZES, SMALL, VALUES, WIDE};
+use strip_tests::borders::{FAR, LABELS, LARGEST, MOST_BYTES, SIZES, SMALL, VALUES, WIDE};
 use strip_tests::cases::{at_call, Cases};
+use strip_tests::draw::{damage, positions};
 use strip_tests::ffi;
 use strip_tests::image::{
     clear, freeze, get, inspect, open, opened_get, opened_rank, opened_select, rank, record_size, row_get, row_label,
     row_length, row_rank, row_select, rows, select,
 };
 use strip_tests::layout::{self, Row};
-use strip_tests::model::{self, length, number_of, words_of};
+use strip_tests::model::{self, length, text, words_of};
 use strip_tests::random::Random;
 use strip_tests::refusal::{answer, Answer, Refusal};
 use strip_tests::Handle;
@@ -104,10 +105,6 @@ fn compare_all(image: &[u8], labels: &[u64]) {
 
 // ---- what they are called on
 
-fn text(bits: &str) -> Vec<bool> {
-    bits.chars().map(|c| c == '1').collect()
-}
-
 /// A strip with anything past its length.
 fn strip(random: &mut Random, capacity: u64, length: u64, share: usize) -> (Handle, Vec<bool>) {
     let lent = [random.bits(length, share), random.bits(capacity - length, 500)].concat();
@@ -121,30 +118,10 @@ fn cleared(size: usize) -> Vec<u8> {
     image
 }
 
-/// Positions around the ends of words, blocks, superblocks and the row, around the number of ones and of zeros, far past the
-/// row, and some at random.
-fn positions(random: &mut Random, bits: &[bool], some: usize) -> Vec<u64> {
-    let mut list = [&SMALL[..], &FAR].concat();
-    for edge in [length(bits), number_of(bits, true), number_of(bits, false)] {
-        list.extend(beside(edge));
-    }
-    list.extend((0..some).map(|_| random.number_below(length(bits) + 3)));
-    list
-}
-
 /// Four rows with gaps, in an image with so many units after the last.
 fn gapped(random: &mut Random, spare: usize) -> Vec<u8> {
     let (few, many, thin) = (random.bits(5, 500), random.bits(4097, 500), random.bits(513, 9));
     layout::image(&[(0, 3, few), (2, 64, many), (0, 1, Vec::new()), (5, 9, thin)], spare)
-}
-
-/// Flips a bit of a row's ones, entries or padding.
-fn damage(random: &mut Random, part: &mut [u8]) {
-    let length = layout::number(part, 8) as usize;
-    let start = 128 + 128 * length.div_ceil(4096);
-    let bit = 96 + random.below(8 * part.len() - length - 96);
-    let bit = if bit < start { bit } else { bit + length };
-    part[bit / 8] ^= 1 << (bit % 8);
 }
 
 // ---- clear; an example

@@ -3,6 +3,7 @@
 use std::ptr::null;
 use strip_tests::borders::{beside, BAD_CAPACITIES, COUNTERS, FAR, LABELS, LARGEST, SMALL, UNITS, WIDE};
 use strip_tests::cases::Cases;
+use strip_tests::draw;
 use strip_tests::ffi;
 use strip_tests::image::{
     clear, freeze, inspect, record_size, row_get, row_label, row_length, row_rank, row_select, rows,
@@ -113,10 +114,8 @@ fn any_number() {
 
 /// So many rows of different labels, in any order, with gaps; and the bytes of their image.
 fn some_rows(random: &mut Random, number: usize) -> (Vec<(u64, u64)>, Vec<u8>) {
-    let mut labels: Vec<u64> = (1..=64).collect();
     let mut list = Vec::new();
-    for _ in 0..number {
-        let label = labels.swap_remove(random.below(labels.len()));
+    for label in draw::labels(random, number) {
         let length = [0, 1 + random.number_below(700), 4096, random.number_below(9000)][random.below(4)];
         list.push((random.below(3) * random.below(4), label, random.bits(length, 500)));
     }
@@ -288,12 +287,8 @@ fn any_image() {
         cases.run(|random| {
             let number = random.below(6);
             let (wanted, mut image) = some_rows(random, number);
-            let places = [vec![0], layout::chain(&image).unwrap()].concat();
-            for _ in 0..random.below(3) {
-                let at = places[random.below(places.len())] + random.below(16);
-                image[at] =
-                    [random.number() as u8, random.below(70) as u8, image[at] ^ 1 << random.below(8)][random.below(3)];
-            }
+            let times = random.below(3);
+            draw::change_numbers(random, &mut image, times);
             for (k, (label, _)) in (0..).zip(wanted) {
                 ask(RowLength(label), &image, &mut tally);
                 ask(RowLabel(k), &image, &mut tally);

@@ -25,7 +25,7 @@ impl Strip {
 
     /// `text` at the start, zeros past it.
     fn from_text(capacity: u64, text: &str) -> Strip {
-        let mut bits: Vec<bool> = text.chars().map(|c| c == '1').collect();
+        let mut bits = model::text(text);
         let length = model::length(&bits);
         bits.resize(capacity as usize, false);
         Strip::new(length, bits)
