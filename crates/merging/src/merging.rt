@@ -25,13 +25,14 @@ use words::Refusal;
 
 // Writes the merged rows of two images: the header, the first's rows, and those of the second whose label the first lacks. `places` are those of the first,
 // `end` is where the last record ends.
-fn write_rows(first: &[u8], places: [usize; PLACES], second: &[u8], third: &mut [u8], end: usize)
-    requires { ⌜ Obeys (now first) × Places (now first) places × Obeys (now second) × (end ≡ unitBytes + sizesOf kind1 (mergedRows (now first) (now second))) ×
+fn write_rows(first: &[u8], places: &[usize], second: &[u8], third: &mut [u8], end: usize)
+    requires { ⌜ Obeys (now first) × Places (now first) (now places) × Obeys (now second) × (end ≡ unitBytes + sizesOf kind1 (mergedRows (now first) (now second))) ×
         (end ≤ length (now third)) × (length (now third) ≤ mostBytes) ⌝ }
     ensures { λ _. ⌜ now (third .exit) ≡ written kind1 (mergedRows (now (first .entry)) (now (second .entry))) (now (third .entry)) ⌝ }
 {
+    let none = [0usize; PLACES];
     put_header(third, next_index(UNIT_BYTES, end));
-    let at = copy_rows(first, [0usize; PLACES], third, UNIT_BYTES, end);
+    let at = copy_rows(first, &none[..], third, UNIT_BYTES, end);
     copy_rows(second, places, third, at, end);
 }
 
@@ -41,11 +42,12 @@ fn merge_rows(first: &[u8], second: &[u8], third: &mut [u8]) -> Answer
     ensures { λ r. ⌜ imageOutcome (toldOf r) (now (third .exit)) ≡ mergeOutcome (now (first .entry)) (now (second .entry)) (now (third .entry)) ⌝ }
 {
     let places = places_of(first);
-    if rows_conflict(first, places, second) {
+    if rows_conflict(first, &places[..], second) {
         return Answer::Refused(Refusal::Conflict);
     }
-    let own = measure(first, [0usize; PLACES]);
-    let more = measure(second, places);
+    let none = [0usize; PLACES];
+    let own = measure(first, &none[..]);
+    let more = measure(second, &places[..]);
     let end = UNIT_BYTES + own.bytes + more.bytes;
     if !size_good(third.len()) {
         return Answer::Refused(Refusal::NoRoom);
@@ -53,7 +55,7 @@ fn merge_rows(first: &[u8], second: &[u8], third: &mut [u8]) -> Answer
     if third.len() < end {
         return Answer::Refused(Refusal::NoRoom);
     }
-    write_rows(first, places, second, third, end);
+    write_rows(first, &places[..], second, third, end);
     Answer::Value(own.rows + more.rows)
 }
 

@@ -58,8 +58,8 @@ fn rows_equal(first: &[u8], a: usize, second: &[u8], b: usize) -> bool
 }
 
 // Whether the first image has a row of the label of the second's record at byte `at`, unequal to that. `places` are those of the first.
-fn row_conflicts(first: &[u8], places: [usize; PLACES], second: &[u8], at: usize) -> bool
-    requires { ⌜ Obeys (now first) × Places (now first) places × RightRecord (now second) at × (labelAt (now second) at ≤ mostLabel) ⌝ }
+fn row_conflicts(first: &[u8], places: &[usize], second: &[u8], at: usize) -> bool
+    requires { ⌜ Obeys (now first) × Places (now first) (now places) × RightRecord (now second) at × (labelAt (now second) at ≤ mostLabel) ⌝ }
     ensures { λ r. ⌜ r ≡ unequal (rowOf (labelAt (now (second .entry)) at) (rowsOf (now (first .entry)))) (rowAt (now (second .entry)) at) ⌝ }
 {
     let place = places[label_at(second, at)];
@@ -70,8 +70,8 @@ fn row_conflicts(first: &[u8], places: [usize; PLACES], second: &[u8], at: usize
 }
 
 // Whether a label stands in both images with unequal rows. `places` are those of the first.
-pub fn rows_conflict(first: &[u8], places: [usize; PLACES], second: &[u8]) -> bool
-    requires { ⌜ Obeys (now first) × Places (now first) places × Obeys (now second) ⌝ }
+pub fn rows_conflict(first: &[u8], places: &[usize], second: &[u8]) -> bool
+    requires { ⌜ Obeys (now first) × Places (now first) (now places) × Obeys (now second) ⌝ }
     ensures { λ r. ⌜ r ≡ conflict (rowsOf (now (first .entry))) (rowsOf (now (second .entry))) ⌝ }
 {
     let mut at = first_record(second);
@@ -91,9 +91,9 @@ pub struct Extent {
 }
 
 // The rows of an image whose label has no mark: their number, and the bytes of their records.
-pub fn measure(image: &[u8], marks: [usize; PLACES]) -> Extent
-    requires { ⌜ Obeys (now image) × Marks marks ⌝ }
-    ensures { λ r. ⌜ Measured kind1 (unmarked marks (rowsOf (now (image .entry)))) (r .rows) (r .bytes) ⌝ }
+pub fn measure(image: &[u8], marks: &[usize]) -> Extent
+    requires { ⌜ Obeys (now image) × Marks (now marks) ⌝ }
+    ensures { λ r. ⌜ Measured kind1 (unmarked (now (marks .entry)) (rowsOf (now (image .entry)))) (r .rows) (r .bytes) ⌝ }
 {
     let mut rows: u64 = 0;
     let mut bytes: usize = 0;
@@ -139,16 +139,10 @@ fn copy_record(image: &[u8], from: usize, out: &mut [u8], at: usize, end: usize)
 }
 
 // Copies the records of an image whose label has no mark, one after another from byte `start` on. Answers where they end.
-pub fn copy_rows(
-    image: &[u8],
-    marks: [usize; PLACES],
-    out: &mut [u8],
-    start: usize,
-    end: usize,
-) -> usize
-    requires { ⌜ Obeys (now image) × Marks marks × (start + sizesOf kind1 (unmarked marks (rowsOf (now image))) ≤ length (now out)) ×
+pub fn copy_rows(image: &[u8], marks: &[usize], out: &mut [u8], start: usize, end: usize) -> usize
+    requires { ⌜ Obeys (now image) × Marks (now marks) × (start + sizesOf kind1 (unmarked (now marks) (rowsOf (now image))) ≤ length (now out)) ×
         (length (now out) ≤ mostBytes) ⌝ }
-    ensures { λ r. ⌜ Copied kind1 (now (out .entry)) start end (unmarked marks (rowsOf (now (image .entry)))) (now (out .exit)) r ⌝ }
+    ensures { λ r. ⌜ Copied kind1 (now (out .entry)) start end (unmarked (now (marks .entry)) (rowsOf (now (image .entry)))) (now (out .exit)) r ⌝ }
 {
     let mut from = first_record(image);
     let mut at = start;

@@ -15,21 +15,21 @@ use Rattle.merging.proofs.rows.copy_rows.Statement.{statement}
 use Rattle.merging.proofs.rows.copy_rows.Tie as tie
 
 abbrev Inv-loop : tie.InvT-loop
-Inv-loop image out₀ start end marks from₀ at₀ out from at = CopyingRows kind1 image marks out₀ start end out from at
+Inv-loop image marks out₀ start end from₀ at₀ out from at = CopyingRows kind1 image marks out₀ start end out from at
 
 abbrev μ-loop : tie.MeasureT-loop
-μ-loop image out₀ start end marks from₀ at₀ out from at = left (length image) from
+μ-loop image marks out₀ start end from₀ at₀ out from at = left (length image) from
 
 -- the record that a turn stands at
 known : (c : tie.In-loop Inv-loop μ-loop)
-    → let s = c .before .before .before .before .before .args .image .now in RecordFacts (kindOf s) s (c .before .loop .from)
+    → let s = c .before .before .before .before .before .before .args .image .now in RecordFacts (kindOf s) s (c .before .loop .from)
 known c = row-walk-facts (c .before .loop .inv .walk) (c .loop-test .taken)
 
 first-record-requires : tie.Need-first-record-requires Inv-loop μ-loop
-first-record-requires c κs = chain-facts _ _ (obeys-chain (c .before .before .pre .0)) .header .least
+first-record-requires c κs = chain-facts _ _ (obeys-chain (c .before .before .before .pre .0)) .header .least
 
 loop-holds : tie.Need-loop-holds Inv-loop μ-loop
-loop-holds c = rw (c .first-record .ensures) (copying-rows-none kind1 kind1-fits _ _ _ _ _ (c .before .before .before .pre .0))
+loop-holds c = rw (c .first-record .ensures) (copying-rows-none kind1 kind1-fits _ _ _ _ _ (c .before .before .before .before .pre .0))
 
 label-at-requires : tie.Need-label-at-requires Inv-loop μ-loop
 label-at-requires c κs = known c .room
@@ -37,34 +37,34 @@ label-at-requires c κs = known c .room
 mul-if1 : tie.Need-mul-if1 Inv-loop μ-loop
 mul-if1 c = search needs
 
-array-read-if1 : tie.Need-array-read-if1 Inv-loop μ-loop
-array-read-if1 c = omega (arith, c .label-at .ensures .0, known (c .before) .high)
+shared-slice-read-if1 : tie.Need-shared-slice-read-if1 Inv-loop μ-loop
+shared-slice-read-if1 c = omega (arith, c .before .label-at .ensures .0, known (c .before .before) .high, c .before .before .before .before .before .before .before .before .pre .1)
 
 copy-record-requires : tie.Need-copy-record-requires Inv-loop μ-loop
 copy-record-requires c κs =
-    let l = c .before .before in
+    let l = c .before .before .before in
     let i = l .before .before .loop .inv in
     let n = l .before .loop-test .taken in
-    let top = l .before .before .before .before .before .before in (
+    let top = l .before .before .before .before .before .before .before in (
       row-walk-right (i .walk) n,
-      copying-rows-room kind1-fits i n (mark-none (top .args .t2) _ _ (l .label-at .ensures .0) (c .before .if1 .taken)) (top .pre .2),
+      copying-rows-room kind1-fits i n (mark-none (top .args .marks .now) _ _ (l .label-at .ensures .0) (c .before .if1 .taken)) (top .pre .2),
       omega (arith, i .long, top .pre .3),
     )
 
 next-record-requires : tie.Need-next-record-requires Inv-loop μ-loop
-next-record-requires c κs = known (c .before .before) .room
+next-record-requires c κs = known (c .before .before .before) .room
 
 loop-less : tie.Need-loop-less Inv-loop μ-loop
 loop-less c =
-    let t = c .before .before .before in
+    let t = c .before .before .before .before in
     rw (c .next-record .ensures) (left-less _ _ (t .loop-test .taken) (known t))
 
 loop-again : tie.Need-loop-again Inv-loop μ-loop
 loop-again c =
-    let l = c .before .before in
+    let l = c .before .before .before in
     let i = l .before .before .loop .inv in
     let n = l .before .loop-test .taken in
-    let marks = l .before .before .before .before .before .before .args .t2 in
+    let marks = l .before .before .before .before .before .before .before .args .marks .now in
     ⊎-elim
     (λ w.
     rw (w .5, w .6)
@@ -88,7 +88,7 @@ copy-rows-spec =
     loop-holds
     label-at-requires
     mul-if1
-    array-read-if1
+    shared-slice-read-if1
     copy-record-requires
     next-record-requires
     loop-less

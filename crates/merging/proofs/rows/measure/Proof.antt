@@ -23,14 +23,14 @@ abbrev μ-loop : tie.MeasureT-loop
 
 -- the record that a turn stands at
 known : (c : tie.In-loop Inv-loop μ-loop)
-    → let s = c .before .before .before .before .args .image .now in RecordFacts (kindOf s) s (c .before .loop .at)
+    → let s = c .before .before .before .before .before .args .image .now in RecordFacts (kindOf s) s (c .before .loop .at)
 known c = row-walk-facts (c .before .loop .inv .walk) (c .loop-test .taken)
 
 first-record-requires : tie.Need-first-record-requires Inv-loop μ-loop
-first-record-requires c κs = chain-facts _ _ (obeys-chain (c .before .pre .0)) .header .least
+first-record-requires c κs = chain-facts _ _ (obeys-chain (c .before .before .pre .0)) .header .least
 
 loop-holds : tie.Need-loop-holds Inv-loop μ-loop
-loop-holds c = rw (c .first-record .ensures) (measuring-none kind1 _ _ (c .before .before .pre .0))
+loop-holds c = rw (c .first-record .ensures) (measuring-none kind1 _ _ (c .before .before .before .pre .0))
 
 label-at-requires : tie.Need-label-at-requires Inv-loop μ-loop
 label-at-requires c κs = known c .room
@@ -38,23 +38,23 @@ label-at-requires c κs = known c .room
 mul-if1 : tie.Need-mul-if1 Inv-loop μ-loop
 mul-if1 c = search needs
 
-array-read-if1 : tie.Need-array-read-if1 Inv-loop μ-loop
-array-read-if1 c = omega (arith, c .label-at .ensures .0, known (c .before) .high)
+shared-slice-read-if1 : tie.Need-shared-slice-read-if1 Inv-loop μ-loop
+shared-slice-read-if1 c = omega (arith, c .before .label-at .ensures .0, known (c .before .before) .high, c .before .before .before .before .before .before .before .pre .1)
 
 add-rows : tie.Need-add-rows Inv-loop μ-loop
 add-rows c =
-    let t = c .before .before in
+    let t = c .before .before .before in
     omega (arith, t .before .loop .inv .few, row-walk-few (t .before .loop .inv .walk) (t .loop-test .taken))
 
 length-at-requires : tie.Need-length-at-requires Inv-loop μ-loop
-length-at-requires c κs = known (c .before .before) .room
+length-at-requires c κs = known (c .before .before .before) .room
 
 record-size-requires : tie.Need-record-size-requires Inv-loop μ-loop
 record-size-requires c κs = c .length-at .ensures .1
 
 add-bytes : tie.Need-add-bytes Inv-loop μ-loop
 add-bytes c =
-    let t = c .before .before .before .before in
+    let t = c .before .before .before .before .before in
     omega (
       arith,
       t .before .loop .inv .bounded,
@@ -65,19 +65,19 @@ add-bytes c =
     )
 
 next-record-requires : tie.Need-next-record-requires Inv-loop μ-loop
-next-record-requires c κs = known (c .before .before) .room
+next-record-requires c κs = known (c .before .before .before) .room
 
 loop-less : tie.Need-loop-less Inv-loop μ-loop
 loop-less c =
-    let t = c .before .before .before in
+    let t = c .before .before .before .before in
     rw (c .next-record .ensures) (left-less _ _ (t .loop-test .taken) (known t))
 
 loop-again : tie.Need-loop-again Inv-loop μ-loop
 loop-again c =
-    let l = c .before .before in
+    let l = c .before .before .before in
     let i = l .before .before .loop .inv in
     let n = l .before .loop-test .taken in
-    let marks = l .before .before .before .before .before .args .t2 in
+    let marks = l .before .before .before .before .before .before .args .marks .now in
     ⊎-elim
     (λ w.
     rw (w .3, w .4)
@@ -99,7 +99,7 @@ measure-spec =
     loop-holds
     label-at-requires
     mul-if1
-    array-read-if1
+    shared-slice-read-if1
     add-rows
     length-at-requires
     record-size-requires

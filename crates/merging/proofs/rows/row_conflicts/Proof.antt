@@ -11,31 +11,33 @@ use Rattle.merging.proofs.rows.row_conflicts.Statement.{statement}
 use Rattle.merging.proofs.rows.row_conflicts.Tie as tie
 
 label-at-requires : tie.Need-label-at-requires
-label-at-requires c κs = c .before .before .pre .2 .room
+label-at-requires c κs = c .before .before .before .pre .2 .room
 
 mul-place : tie.Need-mul-place
 mul-place c = search needs
 
-array-read-place : tie.Need-array-read-place
-array-read-place c = omega (arith, c .label-at .ensures .0, c .before .before .before .pre .3)
+shared-slice-read-place : tie.Need-shared-slice-read-place
+shared-slice-read-place c =
+    let top = c .before .before .before .before .before in
+    omega (arith, c .before .label-at .ensures .0, top .pre .3, top .pre .1 .long)
 
 returns : tie.Need-returns
 returns c =
-    let l = c .before in
-    let top = l .before .before .before in
+    let l = c .before .before in
+    let top = l .before .before .before .before in
     sym (ap (λ (o : Option Labelled). unequal o (rowAt (top .args .second .now) (top .args .at)))
     (place-none (top .pre .0) (top .pre .1) _ _ _ (l .label-at .ensures .0) (top .pre .3) refl (c .if1 .taken)))
 
 rows-equal-requires : tie.Need-rows-equal-requires
 rows-equal-requires c κs =
-    let l = c .before in
-    let top = l .before .before .before in
+    let l = c .before .before in
+    let top = l .before .before .before .before in
     (place-right (top .pre .0) (top .pre .1) _ _ _ (l .label-at .ensures .0) (top .pre .3) refl (c .if1 .left), top .pre .2)
 
 returns-2 : tie.Need-returns-2
 returns-2 c =
-    let l = c .before .before in
-    let top = l .before .before .before in
+    let l = c .before .before .before in
+    let top = l .before .before .before .before in
     ap not (c .rows-equal .ensures)
     ∙ sym (ap (λ (o : Option Labelled). unequal o (rowAt (top .args .second .now) (top .args .at)))
     (place-row (top .pre .0) (top .pre .1) _ _ _ (l .label-at .ensures .0) (top .pre .3) refl (c .before .if1 .left)))
@@ -43,4 +45,4 @@ returns-2 c =
 pub row-conflicts-spec : {M : Type 1} → statement M
 row-conflicts-spec =
     tie.close
-    (tie.spec label-at-requires mul-place array-read-place returns rows-equal-requires returns-2)
+    (tie.spec label-at-requires mul-place shared-slice-read-place returns rows-equal-requires returns-2)

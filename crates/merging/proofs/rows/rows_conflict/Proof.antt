@@ -17,18 +17,18 @@ abbrev μ-loop : tie.MeasureT-loop
 
 -- the record that a turn stands at
 known : (c : tie.In-loop Inv-loop μ-loop)
-    → let s = c .before .before .before .before .before .args .second .now in RecordFacts (kindOf s) s (c .before .loop .at)
+    → let s = c .before .before .before .before .before .before .args .second .now in RecordFacts (kindOf s) s (c .before .loop .at)
 known c = row-walk-facts (c .before .loop .inv .walk) (c .loop-test .taken)
 
 first-record-requires : tie.Need-first-record-requires Inv-loop μ-loop
-first-record-requires c κs = chain-facts _ _ (obeys-chain (c .before .before .pre .2)) .header .least
+first-record-requires c κs = chain-facts _ _ (obeys-chain (c .before .before .before .pre .2)) .header .least
 
 loop-holds : tie.Need-loop-holds Inv-loop μ-loop
-loop-holds c = rw (c .first-record .ensures) (comparing-none _ _ (c .before .before .before .pre .2))
+loop-holds c = rw (c .first-record .ensures) (comparing-none _ _ (c .before .before .before .before .pre .2))
 
 row-conflicts-requires : tie.Need-row-conflicts-requires Inv-loop μ-loop
 row-conflicts-requires c κs =
-    let top = c .before .before .before .before .before in
+    let top = c .before .before .before .before .before .before in
     (top .pre .0, top .pre .1, row-walk-right (c .before .loop .inv .walk) (c .loop-test .taken), known c .high)
 
 returns : tie.Need-returns Inv-loop μ-loop
