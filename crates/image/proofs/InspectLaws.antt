@@ -6,7 +6,10 @@ use mathlib.Core.Option.{Option, some, none}
 use Prim.Native.Nat.{ℕ, zero, suc, _+_, _*_, _<_, _≤_}
 use native.Mathlib.Omega.{arith}
 use lib.ListN.{length, getD, length-append}
-use Rattle.words.specs.Refusals.{Told, value, refused}
+use Rattle.words.specs.declared.refusal.Refusal.{Refusal}
+use Rattle.words.specs.declared.refusal.Answer.{Answer}
+use Rattle.words.specs.declared.refusal.Answer.the-variants.{Value, Refused}
+use Rattle.words.specs.Refusals.{numberOf, judge, unless, Told, value, refused, toldOf}
 use Rattle.words.proofs.BoolLaws.{and-intro, and-first, and-second, true-false}
 use Rattle.image.specs.Bytes.{num}
 use Rattle.image.specs.Kinds.{Kind}
@@ -14,11 +17,11 @@ use Rattle.image.specs.Layout.{unitBytes, mostLabel}
 use Rattle.image.specs.Chain.{kindOf, nextAt, lengthAt, chainOf}
 use Rattle.image.specs.Rows.{partAt, Right, rightPart, RightAt, Obeys, HasWrongRow}
 use Rattle.image.specs.Shelf.{Labelled, written}
-use Rattle.image.specs.Calls.{isSome, recordsIn, recordsOf, allRight, inspectTold, goodPart}
+use Rattle.image.specs.Calls.{isSome, recordsIn, recordsOf, allRight, inspectTable, inspectTold, goodPart}
 use Rattle.image.proofs.KindLaws.{KindFits, KindNamed}
 use Rattle.image.proofs.RightLaws.{right-test, test-right}
-use Rattle.image.proofs.ChainLaws.{no-confusion, RecordFacts, some-in, chain-few}
-use Rattle.image.proofs.WalkLaws.{SoundWalk, Turn, walk-none, walk-turn, walk-done}
+use Rattle.image.proofs.ChainLaws.{no-confusion, RecordFacts, some-in, value-told, refused-told}
+use Rattle.image.proofs.WalkLaws.{SoundWalk, Turn, walk-none, walk-turn, walk-few, walk-done}
 use Rattle.image.proofs.RowLaws.{part-held, part-good}
 use Rattle.image.proofs.ShelfLaws.{Good, places, length-places, written-kind, written-chain, written-records, written-row}
 
@@ -149,6 +152,31 @@ inspect-wrong-only s e = go (inspection s) e
     go (is-wrong w) q = w
     go (is-right o) q = no-confusion cc
 
+-- the records of an image that obeys the layout
+pub obeys-chain : {s : List ℕ} → Obeys s → chainOf s ≡ some (recordsOf s)
+obeys-chain o = o .sound ∙ ap some (sym (ap recordsIn (o .sound)))
+
+-- each has a right row
+pub obeys-right : {s : List ℕ} → Obeys s → (i : ℕ) → i < length (recordsOf s) → RightAt (kindOf s) s (getD (recordsOf s) i 0)
+obeys-right {s} o i l =
+    let e : recordsOf s ≡ o .records = ap recordsIn (o .sound) in
+    subst (λ (bs : List ℕ). RightAt (kindOf s) s (getD bs i 0)) (sym e) (o .right i (subst (λ (bs : List ℕ). i < length bs) e l))
+
+-- no line refuses it
+pub obeys-passed : {s : List ℕ} → Obeys s → judge (inspectTable s) ≡ none
+obeys-passed {s} o = value-told (judge (inspectTable s)) (length (recordsOf s)) (length (recordsOf s)) (sym (inspect-accepts s o)) .0
+
+-- and no other passes
+pub inspect-passed : (s : List ℕ) → judge (inspectTable s) ≡ none → Obeys s
+inspect-passed s e = inspect-obeys s (length (recordsOf s)) (ap (λ (o : Option ℕ). unless o refused (value (length (recordsOf s)))) e) .0
+
+-- an inspection that answers a value, or a refusal
+pub inspect-value : (s : List ℕ) (o : Answer) (n : ℕ) → toldOf o ≡ inspectTold s → o ≡ Value n → Obeys s
+inspect-value s o n e d = inspect-obeys s n (sym e ∙ ap toldOf d) .0
+
+pub inspect-refused : (s : List ℕ) (o : Answer) (r : Refusal) → toldOf o ≡ inspectTold s → o ≡ Refused r → judge (inspectTable s) ≡ some (numberOf r)
+inspect-refused s o r e d = refused-told (judge (inspectTable s)) (numberOf r) (length (recordsOf s)) (sym (ap toldOf d) ∙ e)
+
 -- ---- rows written out
 module _ (K : Kind) (F : KindFits K) (N : KindNamed K) (rs : List Labelled) (base : List ℕ) (g : Good K rs base) where
   -- good rows written out obey the layout
@@ -196,8 +224,7 @@ module _ {s : List ℕ} {at count : ℕ} (w : Inspected s at count) (n : at ≡ 
 
   -- and the count with this one is at most 64
   pub inspected-few : count + 1 ≤ mostLabel
-  inspected-few =
-      omega (arith, w .total, ap length (turn .whole), length-append (w .past) (at ∷ turn .rest), chain-few s (recordsOf s) (w .walk .chain))
+  inspected-few = omega (arith, w .total, walk-few (w .walk) n)
 
   -- its row is right: a turn
   pub inspected-more : (next : ℕ) → next ≡ unitBytes * nextAt s at → rowTest s at ≡ true → Inspected s next (count + 1)

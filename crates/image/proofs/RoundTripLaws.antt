@@ -313,34 +313,36 @@ module _ (s : List ℕ) (label : ℕ) (t : List ℕ) (f : Freezable s label t) w
       ap (λ (n : ℕ). take (sizeOf kind n) (drop end image)) frozen-length
       ∙ take-sets (recordOf kind 0 label t) linkedImage end (sizeOf kind (length t)) inside (record-length kind 0 label t)
 
--- ---- a row's part with another next index
--- all of a part past its first four bytes
-module _ (K : Kind) (part other : List ℕ) (n : ℕ) (same : drop 4 other ≡ drop 4 part) where
+-- ---- a row's part with other bytes in front
+-- two parts that are the same from byte k on
+module _ (k : ℕ) (part other : List ℕ) (same : drop k other ≡ drop k part) where
   -- a byte
-  byte-kept : (x : ℕ) → 4 ≤ x → getD other x 0 ≡ getD part x 0
+  pub byte-kept : (x : ℕ) → k ≤ x → getD other x 0 ≡ getD part x 0
   byte-kept x h =
-      let e : 4 + (x - 4) ≡ x = omega arith in
+      let e : k + (x - k) ≡ x = omega arith in
       ap (λ (y : ℕ). getD other y 0) (sym e)
-      ∙ sym (getD-drop 4 other (x - 4) 0)
-      ∙ ap (λ (l : List ℕ). getD l (x - 4) 0) same
-      ∙ getD-drop 4 part (x - 4) 0
+      ∙ sym (getD-drop k other (x - k) 0)
+      ∙ ap (λ (l : List ℕ). getD l (x - k) 0) same
+      ∙ getD-drop k part (x - k) 0
       ∙ ap (λ (y : ℕ). getD part y 0) e
 
   -- the row's bits
-  pub bits-kept : rowBits K other n ≡ rowBits K part n
-  bits-kept =
+  pub bits-kept : k ≤ headBytes → (K : Kind) (n : ℕ) → rowBits K other n ≡ rowBits K part n
+  bits-kept h K n =
       listOf-ext (bitFrom other (bitsStart K n)) (bitFrom part (bitsStart K n)) n
-      (λ p h. ap (λ (x : ℕ). bit x (p % 8)) (byte-kept (bitsStart K n + p / 8) (omega arith)))
+      (λ p l. ap (λ (x : ℕ). bit x (p % 8)) (byte-kept (bitsStart K n + p / 8) (omega arith)))
 
+-- two that differ in the next index alone
+module _ (K : Kind) (part other : List ℕ) (n : ℕ) (same : drop 4 other ≡ drop 4 part) where
   -- a right row stays right
   pub right-kept : ((i : ℕ) → getD other i 0 < 256) → 4 ≤ length other → Right K part n → Right K other n
   right-kept small h r =
       let x : ℕ = num other 0 4 in
-      let l : num other 4 4 ≡ num part 4 4 = num-ext other part 4 4 4 (λ i k. byte-kept (4 + i) (omega arith)) in
+      let l : num other 4 4 ≡ num part 4 4 = num-ext other part 4 4 4 (λ i k. byte-kept 4 part other same (4 + i) (omega arith)) in
       drop-num other 0 4 x small h refl
       ∙ ap (λ (y : List ℕ). le 4 x ++ y) (same ∙ ap (drop 4) r)
       ∙ sym (record-front K (num part 0 4) (num part 4 4) (rowBits K part n) x)
-      ∙ ap₂ (recordOf K x) (sym l) (sym bits-kept)
+      ∙ ap₂ (recordOf K x) (sym l) (sym (bits-kept 4 part other same (omega arith) K n))
 
 -- ---- the records of a chain that has grown
 -- the last record is the one with the index
@@ -456,7 +458,7 @@ row-kept s t l es et kind p n d hs ht ks kt =
     let m : ℕ = rowLength s l in
     let K : Kind = kindOf s in
     let b : rowBits (kindOf t) (rowPart t l) (rowLength t l) ≡ rowBits K (rowPart s l) m =
-    ap₂ (λ (j : Kind) (x : ℕ). rowBits j (rowPart t l) x) kind n ∙ bits-kept K (rowPart s l) (rowPart t l) m d in
+    ap₂ (λ (j : Kind) (x : ℕ). rowBits j (rowPart t l) x) kind n ∙ bits-kept 4 (rowPart s l) (rowPart t l) d (omega arith) K m in
     let same : Right (kindOf t) (rowPart t l) (rowLength t l) ≡ Right K (rowPart t l) m = ap₂ (λ (j : Kind) (x : ℕ). Right j (rowPart t l) x) kind n in
     let r : Right K (rowPart s l) m → Right (kindOf t) (rowPart t l) (rowLength t l) =
     λ x. subst (λ (A : Type 0). A) (sym same) (right-kept K (rowPart s l) (rowPart t l) m d ht kt x) in

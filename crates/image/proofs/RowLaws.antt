@@ -31,6 +31,10 @@ use Rattle.image.proofs.ChainLaws.{RecordFacts, fields-good, opened, op
 pub part-size : (K : Kind) (s : List ℕ) (at : ℕ) → endAt K s at ≤ length s → length (partAt K s at) ≡ sizeOf K (lengthAt s at)
 part-size K s at h = length-take-le (sizeOf K (lengthAt s at)) (drop at s) (omega (arith, length-drop at s))
 
+-- its length is the record's
+pub part-holds : (K : Kind) (s : List ℕ) (at : ℕ) → lengthAt (partAt K s at) 0 ≡ lengthAt s at
+part-holds K s at = num-taken s at (sizeOf K (lengthAt s at)) 8 4 (omega arith)
+
 -- that of a sound record
 module _ (K : Kind) (s : List ℕ) (at : ℕ) (f : RecordFacts K s at) where
   pub part-long : length (partAt K s at) ≡ sizeOf K (lengthAt s at)
@@ -41,7 +45,7 @@ module _ (K : Kind) (s : List ℕ) (at : ℕ) (f : RecordFacts K s at) where
   part-label = num-taken s at (sizeOf K (lengthAt s at)) 4 4 (omega arith)
 
   pub part-length : lengthAt (partAt K s at) 0 ≡ lengthAt s at
-  part-length = num-taken s at (sizeOf K (lengthAt s at)) 8 4 (omega arith)
+  part-length = part-holds K s at
 
   -- it has room for a record's numbers
   pub part-room : (part : List ℕ) → part ≡ partAt K s at → headBytes ≤ length part

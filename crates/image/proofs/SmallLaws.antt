@@ -21,7 +21,7 @@ use Rattle.image.specs.Kinds.{kind1}
 use Rattle.image.specs.Layout.{unitBytes, mostRow, bitsStart, sizeOf}
 use Rattle.image.specs.Chain.{headerOf, kindOf, labelAt, chainOf, chainEnd}
 use Rattle.image.specs.Rows.{rowBits}
-use Rattle.image.specs.Calls.{isSome, recordsOf, ImageOutcome, imageOutcome, clearTable, clearOutcome, freezeTable, frozen, freezeOutcome, allRight, inspectLines, inspectTold, openTable, rowPart, rowLength, rowGetTold, RowRanked, RowSelected, recordSizeTold, rowLengthTold, rowLabelTold}
+use Rattle.image.specs.Calls.{recordsOf, ImageOutcome, imageOutcome, clearTable, clearOutcome, freezeTable, frozen, freezeOutcome, inspectTable, inspectTold, openTable, rowPart, rowLength, rowGetTold, RowRanked, RowSelected, recordSizeTold, rowLengthTold, rowLabelTold}
 use Rattle.image.proofs.ChainLaws.{chain-facts, chain-few, some-in, opened}
 use Rattle.image.proofs.FreezeLaws.{freezing}
 use Rattle.image.proofs.QueryLaws.{labelTable, label-passed}
@@ -49,9 +49,8 @@ small-freeze h ws s label =
 -- inspect: the number of rows
 pub small-inspect : (s : List ℕ) → Small (inspectTold s)
 small-inspect s =
-    let t : List Line = inspectLines (isSome (chainOf s)) (allRight s (recordsOf s)) in
-    small-unless (judge t) (value (length (recordsOf s))) (λ e.
-    omega (arith, chain-few s (recordsOf s) (some-in (chainOf s) (not-not _ (passes t e .0)))))
+    small-unless (judge (inspectTable s)) (value (length (recordsOf s))) (λ e.
+    omega (arith, chain-few s (recordsOf s) (some-in (chainOf s) (not-not _ (passes (inspectTable s) e .0)))))
 
 -- ---- a row by its label
 -- a row that is opened is short

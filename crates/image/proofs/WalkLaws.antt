@@ -3,9 +3,9 @@ use mathlib.Core.Path.{_≡_, refl, sym, ap, _∙_}
 use mathlib.Core.Bool.{Bool, true, false, cond, not, _&&_, _||_}
 use mathlib.Core.List.{List, [], _∷_, _++_, append-nil}
 use mathlib.Core.Option.{Option, some, none}
-use Prim.Native.Nat.{ℕ, zero, suc, _+_, _-_, _*_, _<_}
+use Prim.Native.Nat.{ℕ, zero, suc, _+_, _-_, _*_, _<_, _≤_}
 use native.Mathlib.Omega.{arith}
-use lib.ListN.{length, getD, set, replicate, length-replicate, getD-replicate, length-set}
+use lib.ListN.{length, getD, set, replicate, length-append, length-replicate, getD-replicate, length-set}
 use lib.Seq.{getD-set-same, getD-set-other, append-snoc}
 use lib.Dec.{eqb}
 use borrow.Author.Tests.{eq-eqb, ne-eqb, eqb-true, eqb-false}
@@ -18,7 +18,7 @@ use Rattle.image.specs.Chain.{kindOf, nextAt, labelAt, endAt, soundHeade
 use Rattle.image.specs.Calls.{recordsIn, recordsOf, recordWith, rowPlace}
 use Rattle.image.specs.Walk.{scanned, scanOf}
 use Rattle.image.proofs.ChainLaws.{no-confusion, header-sound, RecordFacts, record-facts, none-some, not-stopped, restFrom, rest-end, rest-unsound, rest-more, chain-rest, among-first, among-rest}
-use Rattle.image.proofs.ChainLaws.{place-append, link-last, end-last, chain-facts, place-found, found-placed}
+use Rattle.image.proofs.ChainLaws.{place-append, link-last, end-last, chain-facts, chain-few, place-found, found-placed}
 
 -- the records walked, and then others
 abbrev pub onto : List ℕ → Option (List ℕ) → Option (List ℕ)
@@ -123,6 +123,12 @@ walk-turn {s} {at} {past} w n =
       rest = later .0;
       whole = sym (append-snoc past at (later .0)) ∙ later .2;
     }
+
+-- fewer records than there are labels lie before it
+pub walk-few : {s : List ℕ} {at : ℕ} {past : List ℕ} → SoundWalk s at past → (at ≡ 0 → ⊥) → length past + 1 ≤ mostLabel
+walk-few {s} {at} {past} w n =
+    let t = walk-turn w n in
+    omega (arith, ap length (t .whole), length-append past (at ∷ t .rest), chain-few s (recordsOf s) (w .chain))
 
 -- where it ends it has met every record
 pub walk-done : {s : List ℕ} {at : ℕ} {past : List ℕ} → SoundWalk s at past → at ≡ 0 → past ≡ recordsOf s

@@ -100,10 +100,13 @@ unfoldable pub allRight : List ℕ → List ℕ → Bool
 allRight s [] = true
 allRight s (a ∷ rs) = rightPart (kindOf s) (partAt (kindOf s) s a) (lengthAt s a) && allRight s rs
 
+-- of an image
+abbrev pub inspectTable : List ℕ → List Line
+inspectTable s = inspectLines (isSome (chainOf s)) (allRight s (recordsOf s))
+
 -- it answers the number of rows
 abbrev pub inspectTold : List ℕ → Told
-inspectTold s =
-    unless (judge (inspectLines (isSome (chainOf s)) (allRight s (recordsOf s)))) refused (value (length (recordsOf s)))
+inspectTold s = unless (judge (inspectTable s)) refused (value (length (recordsOf s)))
 
 -- opening a row
 abbrev pub openTable : List ℕ → ℕ → List Line

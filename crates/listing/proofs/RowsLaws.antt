@@ -1,7 +1,6 @@
 -- The lines of the rows of an image that obeys the layout: how many there are, how long each is, and the walk that writes them. Assumes nothing.
 use mathlib.Core.Path.{_≡_, refl, sym, ap, _∙_}
 use mathlib.Core.List.{List, [], _∷_, _++_, append-assoc, append-nil}
-use mathlib.Core.Option.{some}
 use Prim.Native.Nat.{ℕ, suc, _+_, _*_, _≤_, _<_, min}
 use native.Mathlib.Omega.{arith}
 use lib.ListN.{length, getD, length-append}
@@ -9,11 +8,12 @@ use Rattle.words.specs.Strip.{cell, rank}
 use Rattle.words.proofs.SearchLaws.{rank-le}
 use Rattle.image.specs.Bytes.{num}
 use Rattle.image.specs.Layout.{unitBytes, mostRow, sizeOf}
-use Rattle.image.specs.Chain.{kindOf, nextAt, labelAt, lengthAt, onesAt, chainOf}
+use Rattle.image.specs.Chain.{kindOf, nextAt, labelAt, lengthAt, onesAt}
 use Rattle.image.specs.Rows.{partAt, rowBits, RightAt, Obeys}
 use Rattle.image.specs.Calls.{recordsIn, recordsOf}
 use Rattle.image.proofs.ChainLaws.{RecordFacts, chain-facts, chain-few}
 use Rattle.image.proofs.WalkLaws.{SoundWalk, Turn, walk-none, walk-turn, walk-done}
+use Rattle.image.proofs.InspectLaws.{obeys-chain}
 use Rattle.image.proofs.NumberLaws.{num-taken}
 use Rattle.image.proofs.PartLaws.{row-length}
 use Rattle.image.proofs.RightLaws.{right-ones}
@@ -48,10 +48,6 @@ rows-long s [] h = omega arith
 rows-long s (a ∷ rs) h =
     omega (arith, h 0 (omega arith), rows-long s rs (λ i l. h (suc i) (omega arith)), length-append (rowLine s a) (rowsText s rs))
 
--- the records of an image that obeys the layout
-pub obeys-chain : (s : List ℕ) → Obeys s → chainOf s ≡ some (recordsOf s)
-obeys-chain s o = o .sound ∙ ap some (sym (ap recordsIn (o .sound)))
-
 -- there is room for its lines
 pub rows-most : (s : List ℕ) → Obeys s → length (rowsText s (recordsOf s)) ≤ textBytes
 rows-most s o =
@@ -85,7 +81,7 @@ pub record RowsPut (s out₀ out : List ℕ) (at end : ℕ) : Type 0 where
 -- where it starts
 pub rows-none : (s out : List ℕ) → Obeys s → RowsPut s out out (unitBytes * num s 0 4) 0
 unfolding rowsText
-rows-none s out o = record { past = []; walk = walk-none s (obeys-chain s o); put = put-none out 0 }
+rows-none s out o = record { past = []; walk = walk-none s (obeys-chain o); put = put-none out 0 }
 
 -- where it has not ended
 module _ {s out₀ out : List ℕ} {at end : ℕ} (w : RowsPut s out₀ out at end) (n : at ≡ 0 → ⊥) where

@@ -1,24 +1,17 @@
 -- Bytes compared and copied, a word at a time. Assumes nothing.
 use mathlib.Core.Path.{_≡_, refl, sym, ap, ap₂, _∙_, subst}
 use mathlib.Core.Bool.{Bool, true, false}
-use mathlib.Core.List.{List, [], _∷_, _++_}
+use mathlib.Core.List.{List, _++_}
 use Prim.Native.Nat.{ℕ, _+_, _*_, _≤_, _<_}
 use native.Mathlib.Omega.{arith}
 use lib.ListN.{length, getD, drop}
 use lib.Seq.{sets, length-sets, drop-length}
-use borrow.Author.Tests.{eq-eqb}
 use Rattle.words.specs.Bits.{same}
-use Rattle.words.proofs.SameLaws.{same-eq}
+use Rattle.words.proofs.SameLaws.{same-eq, same-front}
 use Rattle.image.specs.Bytes.{num, le}
 use Rattle.image.proofs.PutLaws.{Copying, length-le, drop-num, sets-append}
 
 -- ---- two lists compared
--- the same elements in front
-same-front : (xs ys zs : List ℕ) → same (xs ++ ys) (xs ++ zs) ≡ same ys zs
-unfolding same
-same-front [] ys zs = refl
-same-front (x ∷ xs) ys zs = simp (eq-eqb x x refl) (same-front xs ys zs)
-
 -- two lists of n words, equal in the first i
 pub record Compared (a b : List ℕ) (n i : ℕ) : Type 0 where
   pub within : i ≤ n

@@ -14,17 +14,18 @@ use Rattle.image.specs.Bytes.{num}
 use Rattle.image.specs.Kinds.{Kind}
 use Rattle.image.specs.Layout.{unitBytes, mostLabel, mostBytes, sizeOf}
 use Rattle.image.specs.Chain.{kindOf, labelAt, lengthAt, nextAt, placeOf, chainEnd, linkOf, headerOf}
-use Rattle.image.specs.Rows.{RightAt, Obeys}
+use Rattle.image.specs.Rows.{Obeys}
 use Rattle.image.specs.Shelf.{Labelled, sizesOf, rowOf, written}
 use Rattle.image.specs.Calls.{isSome, recordsOf}
 use Rattle.image.proofs.KindLaws.{KindFits}
-use Rattle.image.proofs.ChainLaws.{chain-facts, chain-few, place-found, found-placed}
+use Rattle.image.proofs.ChainLaws.{chain-facts, chain-few}
+use Rattle.image.proofs.InspectLaws.{obeys-chain}
 use Rattle.image.proofs.WalkLaws.{placed-more, walk-done, ScanFacts, scan-absent, scan-found}
 use Rattle.image.proofs.ShelfLaws.{sizes-append, sizes-more}
 use Rattle.merging.specs.Merged.{rowAt, rowsFrom, rowsOf, hasRow, rowsBut, unequal, conflict}
 use Rattle.merging.specs.Working.{RightRecord, Marks, Places, marked, unmarked, Measured, nextTo, recordsTo, Copied}
 use Rattle.merging.specs.Calls.{mergedRows}
-use Rattle.merging.proofs.RowsLaws.{RowWalk, row-walk-none, row-walk-facts, row-walk-fresh, row-walk-more, row-walk-rest, row-walk-done, turn, obeys-chain, obeys-right}
+use Rattle.merging.proofs.RowsLaws.{RowWalk, row-walk-none, row-walk-facts, row-walk-fresh, row-walk-more, row-walk-rest, row-walk-done, turn, label-right}
 use Rattle.merging.proofs.RowsLaws.{rows-more, bits-length, rowIf, row-placed, but-append, but-out, but-in, but-none, but-ext, conflict-append}
 use Rattle.merging.proofs.RecordsLaws.{copied-none, copied-append, copied-written}
 
@@ -171,15 +172,7 @@ module _ {s places : List ℕ} (o : Obeys s) (k : Places s places) (label l plac
 
   -- which is right
   pub place-right : (place ≡ 0 → ⊥) → RightRecord s place
-  place-right n =
-      let w = place-found s label (recordsOf s) place (scan-found scan n) in
-      let f = found-placed s (recordsOf s) label place (chain-facts s (recordsOf s) (obeys-chain o)) w .facts in
-      record {
-        room = f .room;
-        short = f .short;
-        inside = f .inside;
-        right = subst (RightAt (kindOf s) s) (w .here) (obeys-right o (w .index) (w .within));
-      }
+  place-right n = label-right o label place (scan-found scan n)
 
 -- no row of the second image that was walked is unequal to the first's of its label
 pub record Comparing (first second : List ℕ) (at : ℕ) : Type 0 where
@@ -273,7 +266,7 @@ module _ {K : Kind} (F : KindFits K) {s marks out₀ : List ℕ} {start end : �
         record {
           past = w .past ++ (from ∷ []);
           walk = row-walk-more (w .walk) n next e;
-          long = ap length (k .same) ∙ length-sets out at (recordsTo K end at (rowAt s from ∷ [])) ∙ w .long;
+          long = ap length (k .same) ∙ length-sets out at (recordsTo K at end (rowAt s from ∷ [])) ∙ w .long;
           copied =
               subst (λ (rs : List Labelled). Copied K out₀ start end rs out′ after)
               (sym (ap (unmarked marks) (rows-more s (w .past) from) ∙ but-in (marked marks) (rowsFrom s (w .past)) (rowAt s from) m))
@@ -293,7 +286,7 @@ zero-marks (suc n) zero = refl
 zero-marks (suc n) (suc label) = zero-marks n label
 
 -- leave all rows
-pub unmarked-none : (n : ℕ) (rs : List Labelled) → unmarked (replicate n 0) rs ≡ rs
+unmarked-none : (n : ℕ) (rs : List Labelled) → unmarked (replicate n 0) rs ≡ rs
 unmarked-none n rs = but-none (marked (replicate n 0)) rs (λ label. mark-none (replicate n 0) label label refl (zero-marks n label))
 
 -- the places of an image mark the labels that it has
@@ -309,7 +302,7 @@ places-mark {s} {places} o k label h = go (eqb (getD places label 0) 0) refl
         mark-some places label label refl z ∙ sym (ap isSome (place-row o k label label (getD places label 0) refl h refl z))
 
 -- so they leave the rows of another whose label it lacks
-pub unmarked-places : {first second places : List ℕ} → Obeys first → Places first places → Obeys second
+unmarked-places : {first second places : List ℕ} → Obeys first → Places first places → Obeys second
     → unmarked places (rowsOf second) ≡ rowsBut (hasRow (rowsOf first)) (rowsOf second)
 unmarked-places {first} {second} {places} o k q =
     but-ext (marked places) (hasRow (rowsOf first)) second (recordsOf second)
@@ -334,7 +327,7 @@ module _ {first second places : List ℕ} (o : Obeys first) (k : Places first pl
 
     -- a header, and both copied
     pub merged-written : (n : ℕ) (s t : List ℕ) {u v : List ℕ} {end at r : ℕ} → end ≡ unitBytes + sizesOf K (mergedRows first second) → end ≤ length s
-        → t ≡ headerOf K (nextTo end unitBytes) ++ drop unitBytes s → Copied K t unitBytes end (unmarked (replicate n 0) (rowsOf first)) u at
+        → t ≡ headerOf K (nextTo unitBytes end) ++ drop unitBytes s → Copied K t unitBytes end (unmarked (replicate n 0) (rowsOf first)) u at
         → Copied K u at end (unmarked places (rowsOf second)) v r → v ≡ written K (mergedRows first second) s
     merged-written n s t {u} {v} {end} {at} {r} e h ht x y =
         copied-written K F s t (mergedRows first second) e h ht

@@ -1,4 +1,5 @@
--- An accepted merge: its result passes inspection, has the merged rows, and reads each as the image that gave it. Assumes nothing.
+-- The merge: an accepted one's result passes inspection, has the merged rows, and reads each as the image that gave it; and the outcome, line by line. Assumes
+-- nothing.
 use mathlib.Core.Path.{_≡_, refl, sym, ap, ap₂, _∙_, subst}
 use mathlib.Core.Bool.{Bool, true, false, cond, not, _||_, false≢true}
 use mathlib.Core.List.{List, [], _∷_, _++_, append-assoc, append-nil}
@@ -13,8 +14,8 @@ use Rattle.words.specs.Strip.{cell, orElse}
 use Rattle.words.specs.Words.{placeIn}
 use Rattle.words.specs.declared.refusal.Refusal.{Refusal}
 use Rattle.words.specs.declared.refusal.Answer.{Answer}
-use Rattle.words.specs.declared.refusal.Answer.the-variants.{Value, Refused}
-use Rattle.words.specs.Refusals.{numberOf, Line, _⇒_, judge, unless, Told, value, refused, toldOf, Small}
+use Rattle.words.specs.declared.refusal.Answer.the-variants.{Refused}
+use Rattle.words.specs.Refusals.{Line, _⇒_, judge, unless, Told, value, refused, toldOf, Small}
 use Rattle.words.specs.Calls.{valueLine, belowLine, withinLine, absentLine}
 use Rattle.words.proofs.BoolLaws.{and-first, and-second, not-not}
 use Rattle.words.proofs.CheckLaws.{judge-append, passes, passed-both}
@@ -23,36 +24,20 @@ use Rattle.image.specs.Layout.{unitBytes}
 use Rattle.image.specs.Chain.{kindOf, lengthAt, goodLabel, goodSize, among}
 use Rattle.image.specs.Rows.{partAt, rowBits, RightAt, Obeys}
 use Rattle.image.specs.Shelf.{Labelled, written, sizesOf, rowOf}
-use Rattle.image.specs.Calls.{isSome, recordsOf, recordWith, inspectTold, openTable, rowPart, rowLength, rowGetTold, ImageOutcome, imageOutcome}
+use Rattle.image.specs.Calls.{isSome, recordsOf, recordWith, inspectTable, inspectTold, openTable, rowPart, rowLength, rowGetTold, ImageOutcome, imageOutcome}
 use Rattle.image.specs.RoundTrip.{GivesBack}
 use Rattle.image.proofs.KindLaws.{KindFits, KindNamed, image-fits, image-named}
-use Rattle.image.proofs.ChainLaws.{no-confusion, size-facts, label-good, RecordFacts, Links, links-end, links-more, chain-links, among-first, among-rest, chain-facts, Found, place-found, found-placed, value-told, refused-told}
+use Rattle.image.proofs.ChainLaws.{no-confusion, size-facts, label-good, RecordFacts, Links, links-end, links-more, chain-links, among-first, among-rest, chain-facts, Found, place-found, found-placed}
 use Rattle.image.proofs.FreezeLaws.{none-in}
 use Rattle.image.proofs.RoundTripLaws.{gives-back, open-passes}
 use Rattle.image.proofs.PartLaws.{row-le}
 use Rattle.image.proofs.SmallLaws.{small-inspect}
 use Rattle.image.proofs.RowLaws.{after-lines, table-refused}
 use Rattle.image.proofs.ShelfLaws.{GoodRow, GoodRows, rows-end, rows-more, rows-snoc, Good, RowAt, places, length-image, length-places, written-kind, written-records, written-row, written-known, written-gives}
-use Rattle.image.proofs.InspectLaws.{inspect-accepts, inspect-obeys, written-obeys, written-inspected}
+use Rattle.image.proofs.InspectLaws.{obeys-chain, obeys-passed, inspect-passed, inspect-refused, written-obeys, written-inspected}
 use Rattle.merging.specs.Merged.{rowAt, rowsFrom, rowsOf, hasRow, rowsBut, conflict}
-use Rattle.merging.specs.Calls.{mergedRows, inspectTable, roomFor, mergeTable, mergeOutcome, giver, ReadAlike, MergedImage}
-use Rattle.merging.proofs.RowsLaws.{rows-length, rows-at, bits-length, rowIf, row-placed, rowElse, row-append, merged-row, conflict-none, obeys-chain, obeys-right}
-
--- ---- an image inspected
--- one that no line refuses obeys the layout
-pub inspect-passed : (s : List ℕ) → judge (inspectTable s) ≡ none → Obeys s
-inspect-passed s e = inspect-obeys s (length (recordsOf s)) (ap (λ (o : Option ℕ). unless o refused (value (length (recordsOf s)))) e) .0
-
--- and the other way round
-pub obeys-passed : (s : List ℕ) → Obeys s → judge (inspectTable s) ≡ none
-obeys-passed s o = value-told (judge (inspectTable s)) (length (recordsOf s)) (length (recordsOf s)) (sym (inspect-accepts s o)) .0
-
--- an inspection that answers a value, or a refusal
-pub inspect-value : (s : List ℕ) (o : Answer) (n : ℕ) → toldOf o ≡ inspectTold s → o ≡ Value n → Obeys s
-inspect-value s o n e d = inspect-obeys s n (sym e ∙ ap toldOf d) .0
-
-inspect-refused : (s : List ℕ) (o : Answer) (r : Refusal) → toldOf o ≡ inspectTold s → o ≡ Refused r → judge (inspectTable s) ≡ some (numberOf r)
-inspect-refused s o r e d = refused-told (judge (inspectTable s)) (numberOf r) (length (recordsOf s)) (sym (ap toldOf d) ∙ e)
+use Rattle.merging.specs.Calls.{mergedRows, roomFor, mergeLines, mergeTable, mergeOutcome, giver, ReadAlike, MergedImage}
+use Rattle.merging.proofs.RowsLaws.{rows-length, rows-at, bits-length, rowIf, row-placed, row-append, merged-row, conflict-none, label-right}
 
 -- ---- good rows
 -- a sound record has a good row
@@ -119,12 +104,11 @@ obeys-gives : (s : List ℕ) (label a : ℕ) → Obeys s → recordWith s label 
 obeys-gives s label a o e =
     let w : Found s (recordsOf s) label a = place-found s label (recordsOf s) a e in
     let f = found-placed s (recordsOf s) label a (chain-facts s (recordsOf s) (obeys-chain o)) w .facts in
-    let right : RightAt (kindOf s) s a = subst (RightAt (kindOf s) s) (w .here) (obeys-right o (w .index) (w .within)) in
     gives-back s label (rowAt s a .bits)
     (open-passes s label (recordsOf s) a (obeys-chain o) (label-good label (omega (arith, w .its, f .low)) (omega (arith, w .its, f .high))) e)
     (ap (λ (p : Option ℕ). lengthAt s (placeIn 0 p)) e ∙ sym (bits-length s a))
     (ap (λ (p : Option ℕ). rowAt s (placeIn 0 p) .bits) e)
-    (subst (λ (p : Option ℕ). RightAt (kindOf s) s (placeIn 0 p)) (sym e) right)
+    (subst (λ (p : Option ℕ). RightAt (kindOf s) s (placeIn 0 p)) (sym e) (label-right o label a e .right))
 
 -- two rows that give the same bits back
 read-same : (s t : List ℕ) (label : ℕ) (bits : List ℕ) → GivesBack s label bits → GivesBack t label bits → ReadAlike s t label
@@ -177,24 +161,24 @@ read-refused s t label n e d =
 -- ---- the merge of two images
 -- the row of a label is that of its record in the first, or else in the second
 merged-placed : (first second : List ℕ) (label : ℕ)
-    → rowOf label (mergedRows first second) ≡ rowElse (rowIf first (recordWith first label)) (rowIf second (recordWith second label))
+    → rowOf label (mergedRows first second) ≡ orElse (rowIf first (recordWith first label)) (rowIf second (recordWith second label))
 merged-placed first second label =
     merged-row label (rowsOf first) (rowsOf second)
-    ∙ ap₂ rowElse (row-placed first label (recordsOf first)) (row-placed second label (recordsOf second))
+    ∙ ap₂ orElse (row-placed first label (recordsOf first)) (row-placed second label (recordsOf second))
 
 -- a label has a row where it has a record in either
 merged-known : (first second : List ℕ) (label : ℕ)
     → isSome (rowOf label (mergedRows first second)) ≡ (isSome (recordWith first label) || isSome (recordWith second label))
 merged-known first second label = ap isSome (merged-placed first second label) ∙ go (recordWith first label) (recordWith second label)
   where
-    go : (o p : Option ℕ) → isSome (rowElse (rowIf first o) (rowIf second p)) ≡ (isSome o || isSome p)
+    go : (o p : Option ℕ) → isSome (orElse (rowIf first o) (rowIf second p)) ≡ (isSome o || isSome p)
     go none none = refl
     go none (some a) = refl
     go (some a) p = refl
 
 -- the rows of images that obey the layout merge into good rows
-merged-rows : (first second : List ℕ) → Obeys first → Obeys second → GoodRows [] (mergedRows first second)
-merged-rows first second o p =
+rows-merged : (first second : List ℕ) → Obeys first → Obeys second → GoodRows [] (mergedRows first second)
+rows-merged first second o p =
     rows-join (hasRow (rowsOf first)) (obeys-rows first o) (obeys-rows second p) (λ label u e. none-in (rowOf label (rowsOf first)) e)
 
 module _ (first second third : List ℕ) (pass : judge (mergeTable first second (length third)) ≡ none) where
@@ -215,9 +199,9 @@ module _ (first second third : List ℕ) (pass : judge (mergeTable first second 
   N : KindNamed K
   N = image-named first
 
-  -- the lines after those of the two images; where all pass, each part does
+  -- where all lines pass, those of each part do
   abbrev last : List Line
-  last = (conflict (rowsOf first) (rowsOf second) ⇒ 18) ∷ (not (roomFor K rs (length third)) ⇒ 13) ∷ []
+  last = mergeLines first second (length third)
 
   after-first : (judge (inspectTable first) ≡ none) × (judge (inspectTable second ++ last) ≡ none)
   after-first = passed-both (inspectTable first) (inspectTable second ++ last) pass
@@ -241,7 +225,7 @@ module _ (first second third : List ℕ) (pass : judge (mergeTable first second 
       let sized = size-facts n (and-first (goodSize n) (leb end n) room) in
       let ends = leb-true end n (and-second (goodSize n) (leb end n) room) in
       record {
-        rows = merged-rows first second first-obeys second-obeys;
+        rows = rows-merged first second first-obeys second-obeys;
         inside = omega (arith, ends, length-image K F rs);
         least = sized .0;
         most = sized .1;
@@ -265,8 +249,8 @@ module _ (first second third : List ℕ) (pass : judge (mergeTable first second 
     result-reads : ReadAlike image (giver first second label) label
     result-reads = go (recordWith first label) (recordWith second label) refl refl
       where
-        row : (o p : Option ℕ) → recordWith first label ≡ o → recordWith second label ≡ p → rowOf label rs ≡ rowElse (rowIf first o) (rowIf second p)
-        row o p d e = merged-placed first second label ∙ ap₂ (λ (x y : Option ℕ). rowElse (rowIf first x) (rowIf second y)) d e
+        row : (o p : Option ℕ) → recordWith first label ≡ o → recordWith second label ≡ p → rowOf label rs ≡ orElse (rowIf first o) (rowIf second p)
+        row o p d e = merged-placed first second label ∙ ap₂ (λ (x y : Option ℕ). orElse (rowIf first x) (rowIf second y)) d e
 
         go : (o p : Option ℕ) → recordWith first label ≡ o → recordWith second label ≡ p → ReadAlike image (cond (isSome o) first second) label
         go (some a) p d e = result-gives first a first-obeys d (row (some a) p d e)
@@ -295,7 +279,7 @@ module _ (first second third : List ℕ) (pass : judge (mergeTable first second 
           conflict-none (rowsOf first) (rowsOf second) label (rowAt first a) (rowAt second b) equal (row first a d) (row second b e) in
           let given : GivesBack image label (rowAt first a .bits) =
           written-gives K F N rs third good label (rowAt first a)
-          (merged-placed first second label ∙ ap (λ (p : Option ℕ). rowElse (rowIf first p) (rowIf second (recordWith second label))) d) in
+          (merged-placed first second label ∙ ap (λ (p : Option ℕ). orElse (rowIf first p) (rowIf second (recordWith second label))) d) in
           read-same image second label (rowAt second b .bits) (subst (GivesBack image label) same given) (obeys-gives second label b second-obeys e)
 
   -- an accepted merge leaves an image of the merged rows
@@ -330,9 +314,9 @@ module _ (first second third : List ℕ) where
       unless o (λ k. imageOutcome (refused k) third)
       (imageOutcome (value (length (mergedRows first second))) (written (kindOf first) (mergedRows first second) third))
 
-  -- the lines of the images
+  -- the lines after those of the images
   abbrev later : List Line
-  later = (conflict (rowsOf first) (rowsOf second) ⇒ 18) ∷ (not (roomFor (kindOf first) (mergedRows first second) (length third)) ⇒ 13) ∷ []
+  later = mergeLines first second (length third)
 
   -- the first image is refused
   pub merge-first : (a : Answer) (r : Refusal) → toldOf a ≡ inspectTold first → a ≡ Refused r → imageOutcome (toldOf a) third ≡ mergeOutcome first second third
@@ -344,7 +328,7 @@ module _ (first second third : List ℕ) where
   module _ (o : Obeys first) where
     -- it is not
     past-first : judge (mergeTable first second (length third)) ≡ judge (inspectTable second ++ later)
-    past-first = after-lines (inspectTable first) (inspectTable second ++ later) (obeys-passed first o)
+    past-first = after-lines (inspectTable first) (inspectTable second ++ later) (obeys-passed o)
 
     -- the second is
     pub merge-second : (a : Answer) (r : Refusal) → toldOf a ≡ inspectTold second → a ≡ Refused r
@@ -357,7 +341,7 @@ module _ (first second third : List ℕ) where
     module _ (q : Obeys second) where
       -- neither is
       past-both : judge (mergeTable first second (length third)) ≡ judge later
-      past-both = past-first ∙ after-lines (inspectTable second) later (obeys-passed second q)
+      past-both = past-first ∙ after-lines (inspectTable second) later (obeys-passed q)
 
       -- a label stands in both with unequal rows
       pub merge-conflict : conflict (rowsOf first) (rowsOf second) ≡ true → imageOutcome (refused 18) third ≡ mergeOutcome first second third

@@ -2,25 +2,25 @@
 use mathlib.Core.Path.{_≡_, refl, sym, ap, ap₂, _∙_, subst}
 use mathlib.Core.Bool.{Bool, true, false}
 use mathlib.Core.List.{List, [], _∷_, _++_, append-assoc, append-nil}
-use Prim.Native.Nat.{ℕ, _+_, _-_, _*_, _/_, _%_, _≤_}
+use Prim.Native.Nat.{ℕ, _+_, _-_, _*_, _/_, _≤_}
 use native.Mathlib.Omega.{arith}
-use lib.ListN.{length, getD, take, drop, length-append, length-drop}
-use lib.Seq.{sets, getD-drop, drop-at, take-all}
+use lib.ListN.{length, take, drop, length-append, length-drop}
+use lib.Seq.{sets, drop-at, take-all}
 use borrow.Author.Tests.{eq-eqb, ne-eqb}
-use Rattle.words.specs.Bits.{bit, same}
+use Rattle.words.specs.Bits.{same}
 use Rattle.words.proofs.SameLaws.{same-eq, same-refl}
-use Rattle.image.specs.Bytes.{le, bitFrom}
+use Rattle.image.specs.Bytes.{le}
 use Rattle.image.specs.Kinds.{Kind}
-use Rattle.image.specs.Layout.{unitBytes, bitsStart, sizeOf, recordOf}
+use Rattle.image.specs.Layout.{unitBytes, sizeOf, recordOf}
 use Rattle.image.specs.Chain.{kindOf, headerOf, nextAt, labelAt, lengthAt}
 use Rattle.image.specs.Rows.{partAt, rowBits, Right}
 use Rattle.image.specs.Shelf.{Labelled, unitsOf, indexFor, recordsFrom, imageOf, written, sizesOf}
 use Rattle.image.proofs.KindLaws.{KindFits, size-units}
 use Rattle.image.proofs.ChainLaws.{decides}
 use Rattle.image.proofs.PutLaws.{length-le, num-ext, sets-join, sets-front}
-use Rattle.image.proofs.WriteLaws.{listOf-ext, length-header, record-heads, record-length}
-use Rattle.image.proofs.RowLaws.{part-size}
-use Rattle.image.proofs.NumberLaws.{num-taken}
+use Rattle.image.proofs.WriteLaws.{length-header, record-heads, record-length}
+use Rattle.image.proofs.RowLaws.{part-size, part-holds}
+use Rattle.image.proofs.RoundTripLaws.{byte-kept, bits-kept}
 use Rattle.image.proofs.ShelfLaws.{sizes-append, length-image}
 use Rattle.merging.specs.Merged.{rowAt}
 use Rattle.merging.specs.Working.{RightRecord, nextTo, recordsTo, Copied}
@@ -34,28 +34,6 @@ same-rest K x l y m t =
     ap (drop 8) (record-heads K y m t x l ∙ sym (append-assoc (le 4 x) (le 4 l) rest))
     ∙ drop-at (le 4 x ++ le 4 l) rest 8 (length-append (le 4 x) (le 4 l) ∙ ap₂ _+_ (length-le 4 x) (length-le 4 l))
 
--- two parts that are the same from the length on
-module _ (p q : List ℕ) (e : drop 8 p ≡ drop 8 q) where
-  -- each later byte
-  byte-same : (x : ℕ) → 8 ≤ x → getD p x 0 ≡ getD q x 0
-  byte-same x h =
-      let z : 8 + (x - 8) ≡ x = omega arith in
-      ap (λ (y : ℕ). getD p y 0) (sym z)
-      ∙ sym (getD-drop 8 p (x - 8) 0)
-      ∙ ap (λ (l : List ℕ). getD l (x - 8) 0) e
-      ∙ getD-drop 8 q (x - 8) 0
-      ∙ ap (λ (y : ℕ). getD q y 0) z
-
-  -- their length
-  length-same : lengthAt p 0 ≡ lengthAt q 0
-  length-same = num-ext p q 8 8 4 (λ i l. byte-same (8 + i) (omega arith))
-
-  -- their bits
-  bits-same : (K : Kind) (n : ℕ) → rowBits K p n ≡ rowBits K q n
-  bits-same K n =
-      listOf-ext (bitFrom p (bitsStart K n)) (bitFrom q (bitsStart K n)) n
-      (λ i h. ap (λ (x : ℕ). bit x (i % 8)) (byte-same (bitsStart K n + i / 8) (omega arith)))
-
 -- the row of a right record by its part
 module _ (K : Kind) (s : List ℕ) (a : ℕ) (f : RightRecord s a) (kind : kindOf s ≡ K) (part : List ℕ) (p : part ≡ partAt (kindOf s) s a) where
   -- its size
@@ -63,8 +41,8 @@ module _ (K : Kind) (s : List ℕ) (a : ℕ) (f : RightRecord s a) (kind : kindO
   part-whole = ap length p ∙ part-size (kindOf s) s a (f .inside) ∙ ap (λ (j : Kind). sizeOf j (lengthAt s a)) kind
 
   -- its length
-  part-holds : lengthAt part 0 ≡ lengthAt s a
-  part-holds = ap (λ (l : List ℕ). lengthAt l 0) p ∙ num-taken s a (sizeOf (kindOf s) (lengthAt s a)) 8 4 (omega arith)
+  part-length : lengthAt part 0 ≡ lengthAt s a
+  part-length = ap (λ (l : List ℕ). lengthAt l 0) p ∙ part-holds (kindOf s) s a
 
   -- its bits
   part-row : rowBits K part (lengthAt s a) ≡ rowAt s a .bits
@@ -75,7 +53,7 @@ module _ (K : Kind) (s : List ℕ) (a : ℕ) (f : RightRecord s a) (kind : kindO
   part-right = subst (λ (j : Kind). Right j part (lengthAt s a)) kind (subst (λ (l : List ℕ). Right (kindOf s) l (lengthAt s a)) (sym p) (f .right))
 
   -- with any next index and label it is the record of the row's bits
-  pub part-again : (x l : ℕ) → recordOf K x l (rowAt s a .bits) ≡ le 4 x ++ (le 4 l ++ drop 8 part)
+  part-again : (x l : ℕ) → recordOf K x l (rowAt s a .bits) ≡ le 4 x ++ (le 4 l ++ drop 8 part)
   part-again x l =
       let t : List ℕ = rowBits K part (lengthAt s a) in
       ap (recordOf K x l) (sym part-row)
@@ -85,40 +63,40 @@ module _ (K : Kind) (s : List ℕ) (a : ℕ) (f : RightRecord s a) (kind : kindO
 -- ---- records one after another
 module _ (K : Kind) (F : KindFits K) where
   -- they have their sizes
-  to-length : (end at : ℕ) (rs : List Labelled) → length (recordsTo K end at rs) ≡ sizesOf K rs
+  to-length : (end at : ℕ) (rs : List Labelled) → length (recordsTo K at end rs) ≡ sizesOf K rs
   unfolding recordsTo sizesOf
   to-length end at [] = refl
   to-length end at (r ∷ rs) =
       let after : ℕ = at + sizeOf K (length (r .bits)) in
-      length-append (recordOf K (nextTo end after) (r .label) (r .bits)) (recordsTo K end after rs)
-      ∙ ap₂ _+_ (record-length K (nextTo end after) (r .label) (r .bits)) (to-length end after rs)
+      length-append (recordOf K (nextTo after end) (r .label) (r .bits)) (recordsTo K after end rs)
+      ∙ ap₂ _+_ (record-length K (nextTo after end) (r .label) (r .bits)) (to-length end after rs)
 
   -- those of one list, then of another
-  pub to-append : (end at : ℕ) (xs ys : List Labelled) → recordsTo K end at (xs ++ ys) ≡ recordsTo K end at xs ++ recordsTo K end (at + sizesOf K xs) ys
+  to-append : (end at : ℕ) (xs ys : List Labelled) → recordsTo K at end (xs ++ ys) ≡ recordsTo K at end xs ++ recordsTo K (at + sizesOf K xs) end ys
   unfolding recordsTo sizesOf
-  to-append end at [] ys = let z : at ≡ at + 0 = omega arith in ap (λ (x : ℕ). recordsTo K end x ys) z
+  to-append end at [] ys = let z : at ≡ at + 0 = omega arith in ap (λ (x : ℕ). recordsTo K x end ys) z
   to-append end at (r ∷ xs) ys =
       let after : ℕ = at + sizeOf K (length (r .bits)) in
-      let own : List ℕ = recordOf K (nextTo end after) (r .label) (r .bits) in
+      let own : List ℕ = recordOf K (nextTo after end) (r .label) (r .bits) in
       let z : after + sizesOf K xs ≡ at + (sizeOf K (length (r .bits)) + sizesOf K xs) = omega arith in
-      ap (λ (l : List ℕ). own ++ l) (to-append end after xs ys ∙ ap (λ (x : ℕ). recordsTo K end after xs ++ recordsTo K end x ys) z)
-      ∙ sym (append-assoc own (recordsTo K end after xs) (recordsTo K end (at + (sizeOf K (length (r .bits)) + sizesOf K xs)) ys))
+      ap (λ (l : List ℕ). own ++ l) (to-append end after xs ys ∙ ap (λ (x : ℕ). recordsTo K after end xs ++ recordsTo K x end ys) z)
+      ∙ sym (append-assoc own (recordsTo K after end xs) (recordsTo K (at + (sizeOf K (length (r .bits)) + sizesOf K xs)) end ys))
 
   -- the index of what follows
-  next-follows : (end u : ℕ) (rs : List Labelled) → end ≡ unitBytes * u + sizesOf K rs → nextTo end (unitBytes * u) ≡ indexFor u rs
+  next-follows : (end u : ℕ) (rs : List Labelled) → end ≡ unitBytes * u + sizesOf K rs → nextTo (unitBytes * u) end ≡ indexFor u rs
   unfolding sizesOf
   next-follows end u [] e = simp (eq-eqb (unitBytes * u) end (omega arith))
   next-follows end u (r ∷ rs) e = simp (ne-eqb (unitBytes * u) end (λ z. omega arith)) (omega arith)
 
   -- in a chain that ends with them they are the records of the rows
-  to-from : (end u : ℕ) (rs : List Labelled) → end ≡ unitBytes * u + sizesOf K rs → recordsTo K end (unitBytes * u) rs ≡ recordsFrom K u rs
+  to-from : (end u : ℕ) (rs : List Labelled) → end ≡ unitBytes * u + sizesOf K rs → recordsTo K (unitBytes * u) end rs ≡ recordsFrom K u rs
   unfolding recordsTo recordsFrom sizesOf
   to-from end u [] e = refl
   to-from end u (r ∷ rs) e =
       let v : ℕ = u + unitsOf K r in
       let z : unitBytes * u + sizeOf K (length (r .bits)) ≡ unitBytes * v = omega (arith, size-units K F (length (r .bits))) in
       let d : end ≡ unitBytes * v + sizesOf K rs = omega (arith, size-units K F (length (r .bits))) in
-      ap (λ (x : ℕ). recordOf K (nextTo end x) (r .label) (r .bits) ++ recordsTo K end x rs) z
+      ap (λ (x : ℕ). recordOf K (nextTo x end) (r .label) (r .bits) ++ recordsTo K x end rs) z
       ∙ ap₂ (λ (x : ℕ) (l : List ℕ). recordOf K x (r .label) (r .bits) ++ l) (next-follows end v rs d) (to-from end v rs d)
 
   -- none copied
@@ -133,20 +111,20 @@ module _ (K : Kind) (F : KindFits K) where
       record {
         same =
             y .same
-            ∙ ap₂ (λ (l : List ℕ) (k : ℕ). sets l k (recordsTo K end r ys)) (x .same) (x .ends)
-            ∙ sets-join (recordsTo K end at xs) (recordsTo K end r ys) s at (at + sizesOf K xs) (ap (λ (k : ℕ). at + k) (sym (to-length end at xs)))
-            ∙ ap (λ (k : ℕ). sets s at (recordsTo K end at xs ++ recordsTo K end k ys)) (x .ends)
+            ∙ ap₂ (λ (l : List ℕ) (k : ℕ). sets l k (recordsTo K r end ys)) (x .same) (x .ends)
+            ∙ sets-join (recordsTo K at end xs) (recordsTo K r end ys) s at (at + sizesOf K xs) (ap (λ (k : ℕ). at + k) (sym (to-length end at xs)))
+            ∙ ap (λ (k : ℕ). sets s at (recordsTo K at end xs ++ recordsTo K k end ys)) (x .ends)
             ∙ ap (sets s at) (sym (to-append end at xs ys));
         ends = omega (arith, x .ends, y .ends, sizes-append K F xs ys);
       }
 
   -- a header, then rows copied up to where the chain ends: the rows written out
   pub copied-written : (s t : List ℕ) {u : List ℕ} {end q : ℕ} (rs : List Labelled) → end ≡ unitBytes + sizesOf K rs → end ≤ length s
-      → t ≡ headerOf K (nextTo end unitBytes) ++ drop unitBytes s → Copied K t unitBytes end rs u q → u ≡ written K rs s
+      → t ≡ headerOf K (nextTo unitBytes end) ++ drop unitBytes s → Copied K t unitBytes end rs u q → u ≡ written K rs s
   unfolding imageOf
   copied-written s t {u} {end} {q} rs e h ht y =
       let head : List ℕ = headerOf K (indexFor 1 rs) in
-      let first : nextTo end unitBytes ≡ indexFor 1 rs = next-follows end 1 rs (omega arith) in
+      let first : nextTo unitBytes end ≡ indexFor 1 rs = next-follows end 1 rs (omega arith) in
       let long : length head ≡ unitBytes = length-header K (indexFor 1 rs) in
       y .same
       ∙ ap₂ (λ (l z : List ℕ). sets l unitBytes z)
@@ -174,7 +152,7 @@ rest-words K F part m n d e =
 -- ---- a row copied
 -- its new next index, its label, and the bytes of its part from the length on
 pub record-copied : (K : Kind) (s : List ℕ) (a : ℕ) → RightRecord s a → kindOf s ≡ K → (part : List ℕ) → part ≡ partAt (kindOf s) s a
-    → (out out1 out2 out3 : List ℕ) (at end after next label : ℕ) → after ≡ at + length part → next ≡ nextTo end after → label ≡ labelAt s a
+    → (out out1 out2 out3 : List ℕ) (at end after next label : ℕ) → after ≡ at + length part → next ≡ nextTo after end → label ≡ labelAt s a
     → out1 ≡ sets out at (le 4 next) → out2 ≡ sets out1 (at + 4) (le 4 label) → out3 ≡ sets out2 (at + 8) (drop 8 part)
     → Copied K out at end (rowAt s a ∷ []) out3 after
 unfolding recordsTo sizesOf
@@ -192,8 +170,8 @@ record-copied K s a f kind part p out out1 out2 out3 at end after next label ea 
           ∙ ap (sets out at)
           (append-assoc (le 4 next) (le 4 label) (drop 8 part)
           ∙ sym (part-again K s a f kind part p next label)
-          ∙ ap₂ (λ (x l : ℕ). recordOf K x l t) (en ∙ ap (nextTo end) z) el
-          ∙ sym (append-nil (recordOf K (nextTo end (at + sizeOf K (length t))) (labelAt s a) t)));
+          ∙ ap₂ (λ (x l : ℕ). recordOf K x l t) (en ∙ ap (λ (x : ℕ). nextTo x end) z) el
+          ∙ sym (append-nil (recordOf K (nextTo (at + sizeOf K (length t)) end) (labelAt s a) t)));
       ends = omega (arith, z);
     }
 
@@ -211,8 +189,9 @@ module _ (K : Kind) (s t : List ℕ) (a b : ℕ) (f : RightRecord s a) (g : Righ
   -- and only they
   equal-rest : drop 8 p ≡ drop 8 q → rowAt s a .bits ≡ rowAt t b .bits
   equal-rest e =
-      let n : lengthAt s a ≡ lengthAt t b = sym (part-holds K s a f ks p ep) ∙ length-same p q e ∙ part-holds K t b g kt q eq in
-      sym (part-row K s a f ks p ep) ∙ bits-same p q e K (lengthAt s a) ∙ ap (rowBits K q) n ∙ part-row K t b g kt q eq
+      let same : lengthAt p 0 ≡ lengthAt q 0 = num-ext p q 8 8 4 (λ i l. byte-kept 8 q p e (8 + i) (omega arith)) in
+      let n : lengthAt s a ≡ lengthAt t b = sym (part-length K s a f ks p ep) ∙ same ∙ part-length K t b g kt q eq in
+      sym (part-row K s a f ks p ep) ∙ bits-kept 8 q p e (omega arith) K (lengthAt s a) ∙ ap (rowBits K q) n ∙ part-row K t b g kt q eq
 
   -- so the bytes decide
   pub rows-same : same (drop 8 p) (drop 8 q) ≡ same (rowAt s a .bits) (rowAt t b .bits)

@@ -3,22 +3,24 @@ use mathlib.Core.Path.{_≡_, refl, sym, ap, ap₂, _∙_, subst}
 use mathlib.Core.Bool.{Bool, true, false, cond, not, _||_}
 use mathlib.Core.List.{List, [], _∷_, _++_, append-nil}
 use mathlib.Core.Option.{Option, some, none}
-use Prim.Native.Nat.{ℕ, zero, suc, _+_, _*_, _≤_, _<_}
+use Prim.Native.Nat.{ℕ, zero, suc, _+_, _*_, _<_}
 use native.Mathlib.Omega.{arith}
 use lib.ListN.{length, getD, length-append, List·getD-append}
 use lib.Seq.{getD-append-seam}
 use lib.Dec.{eqb}
 use borrow.Author.Tests.{eqb-true}
 use Rattle.words.specs.Bits.{same}
+use Rattle.words.specs.Strip.{orElse}
 use Rattle.words.proofs.BoolLaws.{true-false, not-not}
 use Rattle.words.proofs.SameLaws.{same-eq}
 use Rattle.image.specs.Bytes.{num}
-use Rattle.image.specs.Layout.{unitBytes, mostLabel}
-use Rattle.image.specs.Chain.{kindOf, labelAt, lengthAt, nextAt, chainOf, placeOf}
+use Rattle.image.specs.Layout.{unitBytes}
+use Rattle.image.specs.Chain.{kindOf, labelAt, lengthAt, nextAt, placeOf}
 use Rattle.image.specs.Rows.{partAt, RightAt, Obeys}
 use Rattle.image.specs.Shelf.{Labelled, rowOf}
-use Rattle.image.specs.Calls.{isSome, recordsIn, recordsOf, recordWith}
-use Rattle.image.proofs.ChainLaws.{no-confusion, RecordFacts, chain-facts, chain-few, place-found}
+use Rattle.image.specs.Calls.{isSome, recordsOf, recordWith}
+use Rattle.image.proofs.ChainLaws.{no-confusion, RecordFacts, chain-facts, place-found, found-placed}
+use Rattle.image.proofs.InspectLaws.{obeys-chain, obeys-right}
 use Rattle.image.proofs.PartLaws.{row-length}
 use Rattle.image.proofs.WalkLaws.{SoundWalk, Turn, walk-none, walk-turn, walk-done}
 use Rattle.merging.specs.Merged.{rowAt, rowsFrom, rowsOf, hasRow, rowsBut, merged, unequal, conflict}
@@ -26,7 +28,7 @@ use Rattle.merging.specs.Working.{RightRecord}
 
 -- ---- rows by their records
 -- some records, then others
-pub rows-append : (s xs ys : List ℕ) → rowsFrom s (xs ++ ys) ≡ rowsFrom s xs ++ rowsFrom s ys
+rows-append : (s xs ys : List ℕ) → rowsFrom s (xs ++ ys) ≡ rowsFrom s xs ++ rowsFrom s ys
 unfolding rowsFrom
 rows-append s [] ys = refl
 rows-append s (a ∷ xs) ys = ap (λ (l : List Labelled). rowAt s a ∷ l) (rows-append s xs ys)
@@ -63,14 +65,6 @@ row-placed s label (a ∷ bs) = go (eqb (labelAt s a) label) (row-placed s label
     go true e = refl
     go false e = e
 
--- a label has a row where it has a record
-pub row-known : (s : List ℕ) (label : ℕ) → hasRow (rowsOf s) label ≡ isSome (recordWith s label)
-row-known s label = ap isSome (row-placed s label (recordsOf s)) ∙ go (recordWith s label)
-  where
-    go : (o : Option ℕ) → isSome (rowIf s o) ≡ isSome o
-    go none = refl
-    go (some a) = refl
-
 -- ---- rows left out
 -- those of one list, then of another
 pub but-append : (out : ℕ → Bool) (xs ys : List Labelled) → rowsBut out (xs ++ ys) ≡ rowsBut out xs ++ rowsBut out ys
@@ -97,16 +91,6 @@ pub but-none : (out : ℕ → Bool) (rs : List Labelled) → ((label : ℕ) → 
 unfolding rowsBut
 but-none out [] h = refl
 but-none out (r ∷ rs) h = simp (h (r .label)) (ap (λ (l : List Labelled). r ∷ l) (but-none out rs h))
-
--- at most as many
-pub but-length : (out : ℕ → Bool) (rs : List Labelled) → length (rowsBut out rs) ≤ length rs
-unfolding rowsBut
-but-length out [] = omega arith
-but-length out (r ∷ rs) = go (out (r .label)) (but-length out rs)
-  where
-    go : (t : Bool) → length (rowsBut out rs) ≤ length rs → length (cond t (rowsBut out rs) (r ∷ rowsBut out rs)) ≤ suc (length rs)
-    go true h = omega arith
-    go false h = omega arith
 
 -- the same labels left out
 pub but-ext : (p q : ℕ → Bool) (s bs : List ℕ) → ((i : ℕ) → i < length bs → p (labelAt s (getD bs i 0)) ≡ q (labelAt s (getD bs i 0)))
@@ -157,19 +141,9 @@ pub record RowWalk (s : List ℕ) (at : ℕ) (past : List ℕ) : Type 0 where
   pub obeys : Obeys s
   pub walk : SoundWalk s at past
 
--- its records
-pub obeys-chain : {s : List ℕ} (o : Obeys s) → chainOf s ≡ some (recordsOf s)
-obeys-chain o = o .sound ∙ ap some (sym (ap recordsIn (o .sound)))
-
 -- where it starts
 pub row-walk-none : (s : List ℕ) → Obeys s → RowWalk s (unitBytes * num s 0 4) []
 row-walk-none s o = record { obeys = o; walk = walk-none s (obeys-chain o) }
-
--- a record of the image is right
-pub obeys-right : {s : List ℕ} (o : Obeys s) (i : ℕ) → i < length (recordsOf s) → RightAt (kindOf s) s (getD (recordsOf s) i 0)
-obeys-right {s} o i l =
-    let e : recordsOf s ≡ o .records = ap recordsIn (o .sound) in
-    subst (λ (bs : List ℕ). RightAt (kindOf s) s (getD bs i 0)) (sym e) (o .right i (subst (λ (bs : List ℕ). i < length bs) e l))
 
 -- where it has not ended
 module _ {s : List ℕ} {at : ℕ} {past : List ℕ} (w : RowWalk s at past) (n : at ≡ 0 → ⊥) where
@@ -192,11 +166,6 @@ module _ {s : List ℕ} {at : ℕ} {past : List ℕ} (w : RowWalk s at past) (n 
         inside = turn .facts .inside;
         right = subst (λ (a : ℕ). RightAt (kindOf s) s a) e (obeys-right (w .obeys) (length past) l);
       }
-
-  -- fewer than 64 stand before it
-  pub row-walk-few : length past + 1 ≤ mostLabel
-  row-walk-few =
-      omega (arith, ap length (turn .whole), length-append past (at ∷ turn .rest), chain-few s (recordsOf s) (obeys-chain (w .obeys)))
 
   -- no record before it has its label
   pub row-walk-fresh : (label : ℕ) → labelAt s at ≡ label → placeOf s label past ≡ none
@@ -237,24 +206,19 @@ rows-at s [] d i l = absurd (omega arith)
 rows-at s (a ∷ bs) d zero l = refl
 rows-at s (a ∷ bs) d (suc i) l = rows-at s bs d i (omega arith)
 
--- a row, or else another
-abbrev pub rowElse : Option Labelled → Option Labelled → Option Labelled
-rowElse (some r) o = some r
-rowElse none o = o
-
 -- the rows of one list, then of another
-pub row-append : (label : ℕ) (xs ys : List Labelled) → rowOf label (xs ++ ys) ≡ rowElse (rowOf label xs) (rowOf label ys)
+pub row-append : (label : ℕ) (xs ys : List Labelled) → rowOf label (xs ++ ys) ≡ orElse (rowOf label xs) (rowOf label ys)
 unfolding rowOf
 row-append label [] ys = refl
 row-append label (r ∷ xs) ys = go (eqb (r .label) label) (row-append label xs ys)
   where
-    go : (t : Bool) → rowOf label (xs ++ ys) ≡ rowElse (rowOf label xs) (rowOf label ys)
-        → cond t (some r) (rowOf label (xs ++ ys)) ≡ rowElse (cond t (some r) (rowOf label xs)) (rowOf label ys)
+    go : (t : Bool) → rowOf label (xs ++ ys) ≡ orElse (rowOf label xs) (rowOf label ys)
+        → cond t (some r) (rowOf label (xs ++ ys)) ≡ orElse (cond t (some r) (rowOf label xs)) (rowOf label ys)
     go true e = refl
     go false e = e
 
 -- a label that is not left out keeps its row
-pub but-row : (out : ℕ → Bool) (label : ℕ) → out label ≡ false → (rs : List Labelled) → rowOf label (rowsBut out rs) ≡ rowOf label rs
+but-row : (out : ℕ → Bool) (label : ℕ) → out label ≡ false → (rs : List Labelled) → rowOf label (rowsBut out rs) ≡ rowOf label rs
 unfolding rowOf rowsBut
 but-row out label h [] = refl
 but-row out label h (r ∷ rs) = go (out (r .label)) (eqb (r .label) label) refl refl (but-row out label h rs)
@@ -267,9 +231,22 @@ but-row out label h (r ∷ rs) = go (out (r .label)) (eqb (r .label) label) refl
     go false false p q e = simp (q, rowOf) e
 
 -- of two merged lists, the first's row or else the second's
-pub merged-row : (label : ℕ) (first second : List Labelled) → rowOf label (merged first second) ≡ rowElse (rowOf label first) (rowOf label second)
+pub merged-row : (label : ℕ) (first second : List Labelled) → rowOf label (merged first second) ≡ orElse (rowOf label first) (rowOf label second)
 merged-row label first second = row-append label first (rowsBut (hasRow first) second) ∙ go (rowOf label first) refl
   where
-    go : (o : Option Labelled) → rowOf label first ≡ o → rowElse o (rowOf label (rowsBut (hasRow first) second)) ≡ rowElse o (rowOf label second)
+    go : (o : Option Labelled) → rowOf label first ≡ o → orElse o (rowOf label (rowsBut (hasRow first) second)) ≡ orElse o (rowOf label second)
     go none e = but-row (hasRow first) label (ap isSome e) second
     go (some r) e = refl
+
+-- ---- the record of a label
+-- in an image that obeys the layout it is right
+pub label-right : {s : List ℕ} → Obeys s → (label a : ℕ) → recordWith s label ≡ some a → RightRecord s a
+label-right {s} o label a e =
+    let w = place-found s label (recordsOf s) a e in
+    let f = found-placed s (recordsOf s) label a (chain-facts s (recordsOf s) (obeys-chain o)) w .facts in
+    record {
+      room = f .room;
+      short = f .short;
+      inside = f .inside;
+      right = subst (RightAt (kindOf s) s) (w .here) (obeys-right o (w .index) (w .within));
+    }

@@ -8,29 +8,28 @@ use lib.Dec.{leb}
 use Rattle.words.specs.Refusals.{Line, _⇒_, judge, unless, Told, value, refused}
 use Rattle.image.specs.Kinds.{Kind}
 use Rattle.image.specs.Layout.{unitBytes}
-use Rattle.image.specs.Chain.{kindOf, goodSize, chainOf}
+use Rattle.image.specs.Chain.{kindOf, goodSize}
 use Rattle.image.specs.Shelf.{Labelled, written, sizesOf}
-use Rattle.image.specs.Calls.{isSome, recordsOf, recordWith, allRight, inspectLines, inspectTold, ImageOutcome, imageOutcome, openTable, rowLengthTold, rowGetTold, RowRanked, RowSelected}
+use Rattle.image.specs.Calls.{isSome, recordWith, inspectTable, inspectTold, ImageOutcome, imageOutcome, openTable, rowLengthTold, rowGetTold, RowRanked, RowSelected}
 use Rattle.merging.specs.Merged.{rowsOf, merged, conflict}
 
 -- the rows of the result
 abbrev pub mergedRows : List ℕ → List ℕ → List Labelled
 mergedRows first second = merged (rowsOf first) (rowsOf second)
 
--- an image inspected: 10; 15
-abbrev pub inspectTable : List ℕ → List Line
-inspectTable s = inspectLines (isSome (chainOf s)) (allRight s (recordsOf s))
-
 -- rows of kind K go into a buffer of so many bytes: it has 16 to 2^32, and they end inside it
 abbrev pub roomFor : Kind → List Labelled → ℕ → Bool
 roomFor K rs bytes = goodSize bytes && leb (unitBytes + sizesOf K rs) bytes
 
--- merge: the first image's 10, 15; the second's; 18 a label in both with unequal rows; 13 the result does not end inside the third buffer, or that has under
--- 16 or over 2^32 bytes
+-- two images that pass inspection: 18 a label in both with unequal rows; 13 the result does not end inside the third buffer, or that has under 16 or over 2^32
+-- bytes
+abbrev pub mergeLines : List ℕ → List ℕ → ℕ → List Line
+mergeLines first second bytes =
+    (conflict (rowsOf first) (rowsOf second) ⇒ 18) ∷ (not (roomFor (kindOf first) (mergedRows first second) bytes) ⇒ 13) ∷ []
+
+-- merge: the first image's 10, 15; the second's; 18; 13
 abbrev pub mergeTable : List ℕ → List ℕ → ℕ → List Line
-mergeTable first second bytes =
-    inspectTable first
-    ++ (inspectTable second ++ ((conflict (rowsOf first) (rowsOf second) ⇒ 18) ∷ (not (roomFor (kindOf first) (mergedRows first second) bytes) ⇒ 13) ∷ []))
+mergeTable first second bytes = inspectTable first ++ (inspectTable second ++ mergeLines first second bytes)
 
 -- it answers the number of rows, and leaves in the third buffer the merged rows written out over what it held, in an image of the first one's kind
 abbrev pub mergeOutcome : List ℕ → List ℕ → List ℕ → ImageOutcome

@@ -22,7 +22,7 @@ pub record RightRecord (s : List ℕ) (a : ℕ) : Type 0 where
   pub inside : endAt (kindOf s) s a ≤ length s
   pub right : RightAt (kindOf s) s a
 
--- a number for each label, and one for 0
+-- a number for each label, and one for 0; a mark is one that is not 0
 abbrev pub Marks : List ℕ → Type 0
 Marks marks = length marks ≡ mostLabel + 1
 
@@ -48,15 +48,15 @@ pub record Measured (K : Kind) (rs : List Labelled) (rows bytes : ℕ) : Type 0 
 
 -- the index of the record at byte `at`; zero where the chain ends there
 abbrev pub nextTo : ℕ → ℕ → ℕ
-nextTo end at = cond (eqb at end) 0 (at / unitBytes)
+nextTo at end = cond (eqb at end) 0 (at / unitBytes)
 
 -- the records of rows in order, the first at byte `at`, each where the one before ends, in a chain that ends at byte `end`
 unfoldable pub recordsTo : Kind → ℕ → ℕ → List Labelled → List ℕ
-recordsTo K end at [] = []
-recordsTo K end at (r ∷ rs) =
-    recordOf K (nextTo end (at + sizeOf K (length (r .bits)))) (r .label) (r .bits) ++ recordsTo K end (at + sizeOf K (length (r .bits))) rs
+recordsTo K at end [] = []
+recordsTo K at end (r ∷ rs) =
+    recordOf K (nextTo (at + sizeOf K (length (r .bits))) end) (r .label) (r .bits) ++ recordsTo K (at + sizeOf K (length (r .bits))) end rs
 
 -- t is s with them stored from byte `at` on, and they end at byte r
 pub record Copied (K : Kind) (s : List ℕ) (at end : ℕ) (rs : List Labelled) (t : List ℕ) (r : ℕ) : Type 0 where
-  pub same : t ≡ sets s at (recordsTo K end at rs)
+  pub same : t ≡ sets s at (recordsTo K at end rs)
   pub ends : r ≡ at + sizesOf K rs

@@ -14,8 +14,8 @@ use super::rows::PLACES;
 use super::rows::copy_rows;
 use super::rows::measure;
 use super::rows::next_index;
-use super::rows::places_of;
 use super::rows::rows_conflict;
+use super::rows::set_places;
 use image::UNIT_BYTES;
 use image::inspect;
 use image::put_header;
@@ -26,8 +26,8 @@ use words::Refusal;
 // Writes the merged rows of two images: the header, the first's rows, and those of the second whose label the first lacks. `places` are those of the first,
 // `end` is where the last record ends.
 fn write_rows(first: &[u8], places: &[usize], second: &[u8], third: &mut [u8], end: usize)
-    requires { ⌜ Obeys (now first) × Places (now first) (now places) × Obeys (now second) × (end ≡ unitBytes + sizesOf kind1 (mergedRows (now first) (now second))) ×
-        (end ≤ length (now third)) × (length (now third) ≤ mostBytes) ⌝ }
+    requires { ⌜ Obeys (now first) × Places (now first) (now places) × Obeys (now second) ×
+        (end ≡ unitBytes + sizesOf kind1 (mergedRows (now first) (now second))) × (end ≤ length (now third)) × (length (now third) ≤ mostBytes) ⌝ }
     ensures { λ _. ⌜ now (third .exit) ≡ written kind1 (mergedRows (now (first .entry)) (now (second .entry))) (now (third .entry)) ⌝ }
 {
     let none = [0usize; PLACES];
@@ -41,7 +41,8 @@ fn merge_rows(first: &[u8], second: &[u8], third: &mut [u8]) -> Answer
     requires { ⌜ Obeys (now first) × Obeys (now second) ⌝ }
     ensures { λ r. ⌜ imageOutcome (toldOf r) (now (third .exit)) ≡ mergeOutcome (now (first .entry)) (now (second .entry)) (now (third .entry)) ⌝ }
 {
-    let places = places_of(first);
+    let mut places = [0usize; PLACES];
+    set_places(first, &mut places[..]);
     if rows_conflict(first, &places[..], second) {
         return Answer::Refused(Refusal::Conflict);
     }

@@ -2,7 +2,7 @@
 ghost use mathlib.Core.Path.{_≡_};
 ghost use mathlib.Core.List.{[], _∷_};
 ghost use Prim.Native.Nat.{_+_, _≤_};
-ghost use lib.ListN.{length};
+ghost use lib.ListN.{length, replicate};
 ghost use Rattle.words.specs.Bits.{same};
 ghost use Rattle.image.specs.Kinds.{kind1};
 ghost use Rattle.image.specs.Layout.{mostBytes, mostLabel, sizeOf};
@@ -28,18 +28,16 @@ use image::record_size;
 // A place for each label, and one for 0.
 pub const PLACES: usize = MOST_LABEL + 1;
 
-// The byte where each label's record starts, 0 for none.
-pub fn places_of(image: &[u8]) -> [usize; PLACES]
-    requires { ⌜ Obeys (now image) ⌝ }
-    ensures { λ r. ⌜ Places (now (image .entry)) r ⌝ }
+// Sets the byte where each label's record starts, in places that are 0.
+pub fn set_places(image: &[u8], places: &mut [usize])
+    requires { ⌜ Obeys (now image) × (now places ≡ replicate (mostLabel + 1) 0) ⌝ }
+    ensures { λ _. ⌜ Places (now (image .entry)) (now (places .exit)) ⌝ }
 {
-    let mut places = [0usize; PLACES];
     let mut at = first_record(image);
     while at != 0 {
         places[label_at(image, at)] = at;
         at = next_record(image, at);
     }
-    places
 }
 
 // Whether two right rows have the same length and bits: then their records are the same from the length on.
@@ -90,7 +88,7 @@ pub struct Extent {
     pub bytes: usize,
 }
 
-// The rows of an image whose label has no mark: their number, and the bytes of their records.
+// The rows of an image whose label has no mark, that is 0: their number, and the bytes of their records.
 pub fn measure(image: &[u8], marks: &[usize]) -> Extent
     requires { ⌜ Obeys (now image) × Marks (now marks) ⌝ }
     ensures { λ r. ⌜ Measured kind1 (unmarked (now (marks .entry)) (rowsOf (now (image .entry)))) (r .rows) (r .bytes) ⌝ }
@@ -110,7 +108,7 @@ pub fn measure(image: &[u8], marks: &[usize]) -> Extent
 
 // The unit index of a record that starts at byte `at`; 0 where the chain has ended there.
 pub fn next_index(at: usize, end: usize) -> usize
-    ensures { λ r. ⌜ r ≡ nextTo end at ⌝ }
+    ensures { λ r. ⌜ r ≡ nextTo at end ⌝ }
 {
     if at == end {
         return 0;

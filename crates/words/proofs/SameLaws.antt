@@ -1,7 +1,7 @@
 -- Two lists compared: the test is true exactly where they are equal. Assumes nothing.
 use mathlib.Core.Path.{_≡_, refl, ap₂}
 use mathlib.Core.Bool.{true, false≢true}
-use mathlib.Core.List.{List, [], _∷_}
+use mathlib.Core.List.{List, [], _∷_, _++_}
 use Prim.Native.Nat.{ℕ}
 use lib.Dec.{eqb}
 use borrow.Author.Tests.{eq-eqb, eqb-true}
@@ -23,3 +23,9 @@ pub same-refl : (xs : List ℕ) → same xs xs ≡ true
 unfolding same
 same-refl [] = refl
 same-refl (x ∷ xs) = and-intro (eq-eqb x x refl) (same-refl xs)
+
+-- the same elements in front of two lists
+pub same-front : (xs ys zs : List ℕ) → same (xs ++ ys) (xs ++ zs) ≡ same ys zs
+unfolding same
+same-front [] ys zs = refl
+same-front (x ∷ xs) ys zs = simp (eq-eqb x x refl) (same-front xs ys zs)

@@ -24,8 +24,8 @@ stripOf ws n = listOf (bitAt ws) n
 abbrev pub PastZero : List ℕ → ℕ → Type 0
 PastZero ws n = (p : ℕ) → n ≤ p → bitAt ws p ≡ 0
 
--- the position a, or b where a is none
-abbrev pub orElse : Option ℕ → Option ℕ → Option ℕ
+-- a, or b where a is none
+abbrev pub orElse : {A : Type 0} → Option A → Option A → Option A
 orElse (some p) b = some p
 orElse none b = b
 

@@ -29,7 +29,7 @@ pub enum Refusal {
     BadLabel,
     // a label that is there already
     LabelPresent,
-    // an image too short or too long, or a record that does not end inside it
+    // an image too short or too long, or records that do not end inside it
     NoRoom,
     // a label that is not there
     LabelAbsent,

@@ -6,7 +6,8 @@ use Rattle.image.specs.Chain.{kindOf}
 use Rattle.image.proofs.ChainLaws.{RecordFacts, chain-facts}
 use Rattle.image.proofs.WalkLaws.{left, left-less}
 use Rattle.listing.proofs.StoreLaws.{put-length}
-use Rattle.listing.proofs.RowsLaws.{obeys-chain, RowsPut, rows-none, rows-record, rows-room, rows-more, rows-done}
+use Rattle.image.proofs.InspectLaws.{obeys-chain}
+use Rattle.listing.proofs.RowsLaws.{RowsPut, rows-none, rows-record, rows-room, rows-more, rows-done}
 use Rattle.listing.proofs.rows.put_rows.Statement.{statement}
 use Rattle.listing.proofs.rows.put_rows.Tie as tie
 
@@ -17,7 +18,7 @@ abbrev μ-loop : tie.MeasureT-loop
 μ-loop image out₀ at₀ end₀ out at end = left (length image) at
 
 first-record-requires : tie.Need-first-record-requires Inv-loop μ-loop
-first-record-requires c κs = chain-facts _ _ (obeys-chain _ (c .before .before .pre .0)) .header .least
+first-record-requires c κs = chain-facts _ _ (obeys-chain (c .before .before .pre .0)) .header .least
 
 loop-holds : tie.Need-loop-holds Inv-loop μ-loop
 loop-holds c = rw (c .first-record .ensures) (rows-none _ _ (c .before .before .before .pre .0))

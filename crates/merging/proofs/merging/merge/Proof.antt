@@ -1,5 +1,6 @@
 -- `merging::merging::merge` meets its contract. Assumes nothing.
-use Rattle.merging.proofs.MergeLaws.{inspect-value, merge-first, merge-second}
+use Rattle.image.proofs.InspectLaws.{inspect-value}
+use Rattle.merging.proofs.MergeLaws.{merge-first, merge-second}
 use borrow.Author.Needs.{needs}
 use Rattle.merging.proofs.merging.merge.Statement.{statement}
 use Rattle.merging.proofs.merging.merge.Tie as tie

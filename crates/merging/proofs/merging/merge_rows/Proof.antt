@@ -22,8 +22,11 @@ use borrow.Author.Needs.{needs}
 use Rattle.merging.proofs.merging.merge_rows.Statement.{statement}
 use Rattle.merging.proofs.merging.merge_rows.Tie as tie
 
-places-of-requires : tie.Need-places-of-requires
-places-of-requires c κs = search needs
+slice-aggregate-set-places : tie.Need-slice-aggregate-set-places
+slice-aggregate-set-places c = search needs
+
+set-places-requires : tie.Need-set-places-requires
+set-places-requires c κs = search needs
 
 slice-aggregate-rows-conflict : tie.Need-slice-aggregate-rows-conflict
 slice-aggregate-rows-conflict c = search needs
@@ -33,24 +36,26 @@ rows-conflict-requires c κs = search needs
 
 returns : tie.Need-returns
 returns c =
-    let top = c .before .before .before .before .before .before .before in
+    let top = c .before .before .before .before .before .before .before .before .before in
     merge-conflict _ _ _ (top .pre .0) (top .pre .1) (sym (c .before .rows-conflict .ensures) ∙ c .if1 .taken)
 
 -- no row is unequal
 equal : (c : tie.Else1)
-    → let top = c .before .before .before .before .before .before .before in conflict (rowsOf (top .args .first .now)) (rowsOf (top .args .second .now)) ≡ false
+    → let top = c .before .before .before .before .before .before .before .before .before in
+    conflict (rowsOf (top .args .first .now)) (rowsOf (top .args .second .now)) ≡ false
 equal c = sym (c .before .rows-conflict .ensures) ∙ c .if1 .left
 
 -- where the rows end
 ended : (c : tie.After-measure2)
-    → let top = c .before .before .before .before .before .before .before .before .before .before .before in
+    → let top = c .before .before .before .before .before .before .before .before .before .before .before .before .before in
     unitBytes + c .before .before .measure .result .bytes + c .measure2 .result .bytes
     ≡ unitBytes + sizesOf kind1 (mergedRows (top .args .first .now) (top .args .second .now))
 ended c =
-    let top = c .before .before .before .before .before .before .before .before .before .before .before in
+    let placed = c .before .before .before .before .before .before .before .before .set-places .ensures in
+    let top = c .before .before .before .before .before .before .before .before .before .before .before .before .before in
     omega (
       arith,
-      merged-sizes (top .pre .0) (c .before .before .before .before .before .before .before .places-of .ensures) (top .pre .1) kind1 kind1-fits (mostLabel + 1),
+      merged-sizes (top .pre .0) placed (top .pre .1) kind1 kind1-fits (mostLabel + 1),
       c .before .before .measure .ensures .sizes,
       c .measure2 .ensures .sizes,
     )
@@ -78,7 +83,7 @@ size-good-requires c κs = search needs
 
 returns-2 : tie.Need-returns-2
 returns-2 c =
-    let top = c .before .before .before .before .before .before .before .before .before .before .before .before .before .before .before in
+    let top = c .before .before .before .before .before .before .before .before .before .before .before .before .before .before .before .before .before in
     let first = top .args .first .now in
     let second = top .args .second .now in
     let third = top .args .third .now in
@@ -87,13 +92,14 @@ returns-2 c =
 
 -- the size is in range
 good : (c : tie.Else2)
-    → goodSize (length (c .before .before .before .before .before .before .before .before .before .before .before .before .before .before .before .args .third .now)) ≡ true
+    → let top = c .before .before .before .before .before .before .before .before .before .before .before .before .before .before .before .before .before in
+    goodSize (length (top .args .third .now)) ≡ true
 good c = sym (c .before .size-good .ensures) ∙ not-false _ (c .if2 .left)
 
 returns-3 : tie.Need-returns-3
 returns-3 c =
     let m = c .before .before .before .before .before in
-    let top = m .before .before .before .before .before .before .before .before .before .before .before in
+    let top = m .before .before .before .before .before .before .before .before .before .before .before .before .before in
     let first = top .args .first .now in
     let second = top .args .second .now in
     let third = top .args .third .now in
@@ -107,17 +113,17 @@ slice-aggregate-write-rows c = search needs
 write-rows-requires : tie.Need-write-rows-requires
 write-rows-requires c κs =
     let m = c .before .before .before .before .before .before .before in
-    let top = m .before .before .before .before .before .before .before .before .before .before .before in (
+    let top = m .before .before .before .before .before .before .before .before .before .before .before .before .before in (
       top .pre .0,
-      m .before .before .before .before .before .before .before .places-of .ensures,
+      m .before .before .before .before .before .before .before .before .set-places .ensures,
       top .pre .1,
       ended m,
       omega (arith, c .before .before .if3 .left),
       size-facts _ (good (c .before .before .before)) .1,
     )
 
-add-t28 : tie.Need-add-t28
-add-t28 c = search needs
+add-t29 : tie.Need-add-t29
+add-t29 c = search needs
 
 same-length : tie.Need-same-length
 same-length c = search needs
@@ -126,14 +132,14 @@ returns-4 : tie.Need-returns-4
 returns-4 c =
     let w = c .before .before .before .before in
     let m = w .before .before .before .before .before .before .before .before in
-    let top = m .before .before .before .before .before .before .before .before .before .before .before in
+    let top = m .before .before .before .before .before .before .before .before .before .before .before .before .before in
     let first = top .args .first .now in
     let second = top .args .second .now in
     let third = top .args .third .now in
     let rows : m .before .before .measure .result .rows + m .measure2 .result .rows ≡ length (mergedRows first second) =
     omega (
       arith,
-      merged-number (top .pre .0) (m .before .before .before .before .before .before .before .places-of .ensures) (top .pre .1) (mostLabel + 1),
+      merged-number (top .pre .0) (m .before .before .before .before .before .before .before .before .set-places .ensures) (top .pre .1) (mostLabel + 1),
       m .before .before .measure .ensures .number,
       m .measure2 .ensures .number,
     ) in
@@ -141,13 +147,15 @@ returns-4 c =
     (w .write-rows .ensures ∙ ap (λ (K : Kind). written K (mergedRows first second) third) (sym (one-kind first)))
     ∙ merge-written first second third (top .pre .0) (top .pre .1) (equal (m .before .before .before .before))
     (ap (λ (K : Kind). roomFor K (mergedRows first second) (length third)) (one-kind first)
-    ∙ room-enough kind1 (mergedRows first second) (length third) (good (w .before .before .before .before)) (omega (arith, w .before .before .before .if3 .left, ended m)))
+    ∙ room-enough kind1 (mergedRows first second) (length third) (good (w .before .before .before .before))
+    (omega (arith, w .before .before .before .if3 .left, ended m)))
 
 pub merge-rows-spec : {M : Type 1} → statement M
 merge-rows-spec =
     tie.close
     (tie.spec
-    places-of-requires
+    slice-aggregate-set-places
+    set-places-requires
     slice-aggregate-rows-conflict
     rows-conflict-requires
     returns
@@ -162,6 +170,6 @@ merge-rows-spec =
     returns-3
     slice-aggregate-write-rows
     write-rows-requires
-    add-t28
+    add-t29
     same-length
     returns-4)

@@ -42,7 +42,8 @@ copy-rows-requires-2 c κs =
     let top = h .before .before .before .before .before .before .before in
     let sizes = merged-sizes (top .pre .0) (top .pre .1) (top .pre .2) kind1 kind1-fits (mostLabel + 1) in
     let long : length (x .copy-rows .last .1 .1 .0) ≡ length (top .args .third .now) = x .copy-rows .kept .1 .1 .0 ∙ h .put-header .kept .0 in
-    let fits : x .copy-rows .result + sizesOf kind1 (unmarked (top .args .places .now) (rowsOf (top .args .second .now))) ≤ length (x .copy-rows .last .1 .1 .0) =
+    let fits : x .copy-rows .result + sizesOf kind1 (unmarked (top .args .places .now) (rowsOf (top .args .second .now)))
+    ≤ length (x .copy-rows .last .1 .1 .0) =
     omega (arith, sizes, x .copy-rows .ensures .ends, top .pre .3, top .pre .4, long) in
     let small : length (x .copy-rows .last .1 .1 .0) ≤ mostBytes = omega (arith, top .pre .5, long) in
     (top .pre .2, top .pre .1 .long, fits, small)

@@ -7,7 +7,8 @@ use Rattle.image.specs.Chain.{kindOf}
 use Rattle.image.proofs.KindLaws.{kind1-fits}
 use Rattle.image.proofs.ChainLaws.{RecordFacts, chain-facts}
 use Rattle.image.proofs.WalkLaws.{left, left-less}
-use Rattle.merging.proofs.RowsLaws.{obeys-chain, row-walk-facts, row-walk-right}
+use Rattle.image.proofs.InspectLaws.{obeys-chain}
+use Rattle.merging.proofs.RowsLaws.{row-walk-facts, row-walk-right}
 use Rattle.merging.proofs.LoopLaws.{mark-none, mark-some}
 use Rattle.merging.proofs.LoopLaws.{CopyingRows, copying-rows-none, copying-rows-room, copying-rows-out, copying-rows-in, copying-rows-done}
 use borrow.Author.Needs.{needs}
@@ -38,7 +39,9 @@ mul-if1 : tie.Need-mul-if1 Inv-loop μ-loop
 mul-if1 c = search needs
 
 shared-slice-read-if1 : tie.Need-shared-slice-read-if1 Inv-loop μ-loop
-shared-slice-read-if1 c = omega (arith, c .before .label-at .ensures .0, known (c .before .before) .high, c .before .before .before .before .before .before .before .before .pre .1)
+shared-slice-read-if1 c =
+    let top = c .before .before .before .before .before .before .before .before in
+    omega (arith, c .before .label-at .ensures .0, known (c .before .before) .high, top .pre .1)
 
 copy-record-requires : tie.Need-copy-record-requires Inv-loop μ-loop
 copy-record-requires c κs =

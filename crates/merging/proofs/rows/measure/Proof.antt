@@ -8,8 +8,9 @@ use Rattle.image.specs.Kinds.{kind1}
 use Rattle.image.specs.Chain.{kindOf}
 use Rattle.image.proofs.KindLaws.{kind1-fits, one-kind}
 use Rattle.image.proofs.ChainLaws.{RecordFacts, chain-facts}
-use Rattle.image.proofs.WalkLaws.{left, left-less}
-use Rattle.merging.proofs.RowsLaws.{obeys-chain, row-walk-facts, row-walk-few}
+use Rattle.image.proofs.WalkLaws.{left, left-less, walk-few}
+use Rattle.image.proofs.InspectLaws.{obeys-chain}
+use Rattle.merging.proofs.RowsLaws.{row-walk-facts}
 use Rattle.merging.proofs.LoopLaws.{Measuring, measuring-none, measuring-out, measuring-in, measuring-done, mark-none, mark-some}
 use borrow.Author.Needs.{needs}
 use Rattle.merging.proofs.rows.measure.Statement.{statement}
@@ -39,12 +40,14 @@ mul-if1 : tie.Need-mul-if1 Inv-loop μ-loop
 mul-if1 c = search needs
 
 shared-slice-read-if1 : tie.Need-shared-slice-read-if1 Inv-loop μ-loop
-shared-slice-read-if1 c = omega (arith, c .before .label-at .ensures .0, known (c .before .before) .high, c .before .before .before .before .before .before .before .pre .1)
+shared-slice-read-if1 c =
+    let top = c .before .before .before .before .before .before .before in
+    omega (arith, c .before .label-at .ensures .0, known (c .before .before) .high, top .pre .1)
 
 add-rows : tie.Need-add-rows Inv-loop μ-loop
 add-rows c =
     let t = c .before .before .before in
-    omega (arith, t .before .loop .inv .few, row-walk-few (t .before .loop .inv .walk) (t .loop-test .taken))
+    omega (arith, t .before .loop .inv .few, walk-few (t .before .loop .inv .walk .walk) (t .loop-test .taken))
 
 length-at-requires : tie.Need-length-at-requires Inv-loop μ-loop
 length-at-requires c κs = known (c .before .before .before) .room
@@ -59,7 +62,7 @@ add-bytes c =
       arith,
       t .before .loop .inv .bounded,
       t .before .loop .inv .few,
-      row-walk-few (t .before .loop .inv .walk) (t .loop-test .taken),
+      walk-few (t .before .loop .inv .walk .walk) (t .loop-test .taken),
       c .record-size .ensures,
       c .before .length-at .ensures .1,
     )

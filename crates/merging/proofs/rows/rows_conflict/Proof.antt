@@ -4,7 +4,8 @@ use lib.ListN.{length}
 use Rattle.image.specs.Chain.{kindOf}
 use Rattle.image.proofs.ChainLaws.{RecordFacts, chain-facts}
 use Rattle.image.proofs.WalkLaws.{left, left-less}
-use Rattle.merging.proofs.RowsLaws.{obeys-chain, row-walk-facts, row-walk-right}
+use Rattle.image.proofs.InspectLaws.{obeys-chain}
+use Rattle.merging.proofs.RowsLaws.{row-walk-facts, row-walk-right}
 use Rattle.merging.proofs.LoopLaws.{Comparing, comparing-none, comparing-more, comparing-unequal, comparing-done}
 use Rattle.merging.proofs.rows.rows_conflict.Statement.{statement}
 use Rattle.merging.proofs.rows.rows_conflict.Tie as tie
