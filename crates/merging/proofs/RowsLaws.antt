@@ -162,7 +162,6 @@ module _ {s : List ℕ} {at : ℕ} {past : List ℕ} (w : RowWalk s at past) (n 
       ap (λ (bs : List ℕ). getD bs (length past) 0) (sym (turn .whole)) ∙ getD-append-seam past at (turn .rest) 0 in
       record {
         room = turn .facts .room;
-        short = turn .facts .short;
         inside = turn .facts .inside;
         right = subst (λ (a : ℕ). RightAt (kindOf s) s a) e (obeys-right (w .obeys) (length past) l);
       }
@@ -246,7 +245,6 @@ label-right {s} o label a e =
     let f = found-placed s (recordsOf s) label a (chain-facts s (recordsOf s) (obeys-chain o)) w .facts in
     record {
       room = f .room;
-      short = f .short;
       inside = f .inside;
       right = subst (RightAt (kindOf s) s) (w .here) (obeys-right o (w .index) (w .within));
     }

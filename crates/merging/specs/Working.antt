@@ -8,17 +8,16 @@ use lib.ListN.{length, getD}
 use lib.Dec.{eqb}
 use lib.Seq.{sets}
 use Rattle.image.specs.Kinds.{Kind}
-use Rattle.image.specs.Layout.{unitBytes, headBytes, mostBytes, mostLabel, mostRow, sizeOf, recordOf}
-use Rattle.image.specs.Chain.{kindOf, lengthAt, endAt}
+use Rattle.image.specs.Layout.{unitBytes, headBytes, mostBytes, mostLabel, sizeOf, recordOf}
+use Rattle.image.specs.Chain.{kindOf, endAt}
 use Rattle.image.specs.Rows.{RightAt}
 use Rattle.image.specs.Shelf.{Labelled, sizesOf}
 use Rattle.image.specs.Calls.{rowPlace}
 use Rattle.merging.specs.Merged.{rowsBut}
 
--- a record that lies inside an image, has a length in range, and is right
+-- a record that lies inside an image, and whose row is right
 pub record RightRecord (s : List ℕ) (a : ℕ) : Type 0 where
   pub room : a + headBytes ≤ length s
-  pub short : lengthAt s a ≤ mostRow
   pub inside : endAt (kindOf s) s a ≤ length s
   pub right : RightAt (kindOf s) s a
 

@@ -88,7 +88,7 @@ pub struct Extent {
     pub bytes: usize,
 }
 
-// The rows of an image whose label has no mark, that is 0: their number, and the bytes of their records.
+// The rows of an image whose label is not marked by a number other than 0: how many they are, and the bytes of their records.
 pub fn measure(image: &[u8], marks: &[usize]) -> Extent
     requires { ⌜ Obeys (now image) × Marks (now marks) ⌝ }
     ensures { λ r. ⌜ Measured kind1 (unmarked (now (marks .entry)) (rowsOf (now (image .entry)))) (r .rows) (r .bytes) ⌝ }
@@ -136,7 +136,7 @@ fn copy_record(image: &[u8], from: usize, out: &mut [u8], at: usize, end: usize)
     after
 }
 
-// Copies the records of an image whose label has no mark, one after another from byte `start` on. Answers where they end.
+// Copies the records of an image whose label is not marked, one after another from byte `start` on. Answers where they end.
 pub fn copy_rows(image: &[u8], marks: &[usize], out: &mut [u8], start: usize, end: usize) -> usize
     requires { ⌜ Obeys (now image) × Marks (now marks) × (start + sizesOf kind1 (unmarked (now marks) (rowsOf (now image))) ≤ length (now out)) ×
         (length (now out) ≤ mostBytes) ⌝ }
