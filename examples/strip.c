@@ -248,7 +248,7 @@ static void keep(const char *path)
     }
 }
 
-/* Another unit's image: cylinder 1's strip as above, and under that label cylinder 3's as the crank judged it. */
+/* Another unit's image: cylinder 1's strip as above, and under `label` cylinder 3's as the crank judged it. */
 static void freeze_other(uint64_t label)
 {
     MUST(clear());

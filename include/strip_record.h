@@ -76,8 +76,8 @@ static inline uint64_t strip_record_capacity(const struct strip_record *r) { ret
 
 static inline uint64_t strip_record_length(const struct strip_record *r) { return r->handle.length; }
 
-/* The answer of a call that takes no record and returns a uint64_t, as strip_answer_of(image_clear(image, image_len)).
- * That of strip_pair_span is an int64_t: see strip_record_pair_span. */
+/* The answer of a call that takes no record and returns a uint64_t, as strip_answer_of(image_clear(image, image_len));
+ * image_merge is such a call. That of strip_pair_span is an int64_t: see strip_record_pair_span. */
 static inline struct strip_answer strip_answer_of(uint64_t answer)
 {
     struct strip_answer a = {0, 0, 0};

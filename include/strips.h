@@ -41,7 +41,8 @@
  * reaches m. The calls on two strips go over the words of both, each word once: those before i, those up to the stroke
  * found or to the length, those of the span; strip_waiting_find up to the latest position, where there is one, else to
  * the length. The other calls on a strip take constant time. image_merge reads both images as image_inspect does; then
- * the rows of each label that is in both, up to the first eight bytes that differ; then the rows that it copies, once.
+ * a few times the numbers of each record; the rows of each label that is in both, up to the first eight bytes that
+ * differ; and the rows that it copies, once.
  */
 #ifndef STRIPS_H
 #define STRIPS_H
@@ -404,7 +405,7 @@ uint64_t image_freeze(uint64_t capacity, uint64_t length, const uint64_t *words,
  *   NULL, 0 as the first or the second image         refused 10
  *   NULL, 0 or under 16 bytes as the third           refused 13, where nothing before it applies
  *   two images with no row                           0; the third buffer gets the header of an empty chain
- *   a second image whose labels the first all has    the first image's rows, with no gaps; or refused 18
+ *   a second image whose labels the first all has    the first image's rows, with no gaps; or 18, or 13
  *   unequal rows of a label, and no room             refused 18
  *   a result that ends with the third buffer         accepted; with one byte less lent, refused 13 */
 uint64_t image_merge(const uint8_t *first, size_t first_len, const uint8_t *second, size_t second_len, uint8_t *third,

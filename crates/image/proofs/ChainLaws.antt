@@ -14,7 +14,7 @@ use Rattle.words.specs.declared.refusal.Refusal.{Refusal}
 use Rattle.words.specs.declared.refusal.Answer.{Answer}
 use Rattle.words.specs.declared.refusal.Answer.the-variants.{Value, Refused}
 use Rattle.words.specs.Refusals.{numberOf, judge, unless, value, refused, toldOf}
-use Rattle.words.proofs.BoolLaws.{and-first, and-second, not-not}
+use Rattle.words.proofs.BoolLaws.{and-first, and-second, not-not, or-none}
 use Rattle.words.proofs.CheckLaws.{passes}
 use Rattle.image.specs.Bytes.{num}
 use Rattle.image.specs.Kinds.{Kind, kinds, isKind}
@@ -297,20 +297,12 @@ links-order (links-more n f u k) (suc i) (suc j) h l = links-order k i j (omega 
 -- not in a list: not its first
 pub among-first : (x y : ℕ) (ys : List ℕ) → among x (y ∷ ys) ≡ false → x ≡ y → ⊥
 unfolding among
-among-first x y ys h = eqb-false x y (or-first (eqb x y) _ h)
-  where
-    or-first : (t u : Bool) → (t || u) ≡ false → t ≡ false
-    or-first true u p = p
-    or-first false u p = refl
+among-first x y ys h = eqb-false x y (or-none (eqb x y) (among x ys) h .0)
 
 -- and not in the rest
 pub among-rest : (x y : ℕ) (ys : List ℕ) → among x (y ∷ ys) ≡ false → among x ys ≡ false
 unfolding among
-among-rest x y ys h = or-rest (eqb x y) _ h
-  where
-    or-rest : (t u : Bool) → (t || u) ≡ false → u ≡ false
-    or-rest true u p = absurd (true≢false p)
-    or-rest false u p = p
+among-rest x y ys h = or-none (eqb x y) (among x ys) h .1
 
 -- no label was met before
 links-unmet : {K : Kind} {s : List ℕ} {a : ℕ} {met rs : List ℕ} → Links K s a met rs → (j : ℕ) → j < length rs → among (labelAt s (getD rs j 0)) met ≡ false

@@ -133,7 +133,7 @@ pub image-fits : (s : List ℕ) → KindFits (kindOf s)
 unfolding kindOf
 image-fits s = among-each KindFits kinds kind1-fits (kind1-fits, tt) (num s 4 4)
 
--- and that there is
+-- and that its own number names
 pub image-named : (s : List ℕ) → KindNamed (kindOf s)
 unfolding kindOf
 image-named s = among-each KindNamed kinds kind1-named (kind1-named, tt) (num s 4 4)

@@ -16,7 +16,7 @@ use Rattle.image.specs.Chain.{kindOf, lengthAt}
 use Rattle.image.specs.Rows.{rowBits}
 use Rattle.image.specs.Calls.{openTable, openPart, heldLength, goodPart, partLine, partGetTold, PartRanked, PartSelected, rowPlace, rowPart, rowLength, rowGetTold, RowRanked, RowSelected}
 use Rattle.image.proofs.ChainLaws.{RecordFacts, opened}
-use Rattle.image.proofs.RowLaws.{part-room, part-length, part-good, RowHeld, row-look, row-count, row-find}
+use Rattle.image.proofs.RowLaws.{part-room, part-holds, part-good, RowHeld, row-look, row-count, row-find}
 
 -- the length held with a part that has room for a record's numbers is the one among them
 held-length : (part : List ℕ) → headBytes ≤ length part → heldLength part ≡ lengthAt part 0
@@ -38,7 +38,7 @@ module _ (K : Kind) (s : List ℕ) (label : ℕ) (kind : kindOf s ≡ K) (e : ju
   opened-held =
       ap heldLength opened-part
       ∙ held-length (rowPart s label) (part-room (kindOf s) s (rowPlace s label) facts (rowPart s label) refl)
-      ∙ part-length (kindOf s) s (rowPlace s label) facts
+      ∙ part-holds (kindOf s) s (rowPlace s label)
 
   -- its part passes the check
   pub opened-good : goodPart K (openPart s label) (heldLength (openPart s label)) ≡ true

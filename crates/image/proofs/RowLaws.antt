@@ -40,12 +40,9 @@ module _ (K : Kind) (s : List ℕ) (at : ℕ) (f : RecordFacts K s at) where
   pub part-long : length (partAt K s at) ≡ sizeOf K (lengthAt s at)
   part-long = part-size K s at (f .inside)
 
-  -- its label and its length are the record's
+  -- its label is the record's
   part-label : labelAt (partAt K s at) 0 ≡ labelAt s at
   part-label = num-taken s at (sizeOf K (lengthAt s at)) 4 4 (omega arith)
-
-  pub part-length : lengthAt (partAt K s at) 0 ≡ lengthAt s at
-  part-length = part-holds K s at
 
   -- it has room for a record's numbers
   pub part-room : (part : List ℕ) → part ≡ partAt K s at → headBytes ≤ length part
@@ -53,7 +50,7 @@ module _ (K : Kind) (s : List ℕ) (at : ℕ) (f : RecordFacts K s at) where
 
   -- the length that is read from it is the record's too
   pub part-held : (part : List ℕ) (n : ℕ) → part ≡ partAt K s at → n ≡ lengthAt part 0 → n ≡ lengthAt s at
-  part-held part n p l = l ∙ ap (λ (q : List ℕ). lengthAt q 0) p ∙ part-length
+  part-held part n p l = l ∙ ap (λ (q : List ℕ). lengthAt q 0) p ∙ part-holds K s at
 
   -- it is exactly one record with label and length in range
   pub part-good : goodPart K (partAt K s at) (lengthAt s at) ≡ true
@@ -61,9 +58,9 @@ module _ (K : Kind) (s : List ℕ) (at : ℕ) (f : RecordFacts K s at) where
   part-good =
       simp (
         le-leb headBytes (length (partAt K s at)) (omega (arith, part-long)),
-        fields-good (partAt K s at) 0 (omega (arith, part-label, f .low)) (omega (arith, part-label, f .high)) (omega (arith, part-length, f .short)),
-        eq-eqb (length (partAt K s at)) (sizeOf K (lengthAt (partAt K s at) 0)) (part-long ∙ ap (sizeOf K) (sym part-length)),
-        eq-eqb (lengthAt s at) (lengthAt (partAt K s at) 0) (sym part-length),
+        fields-good (partAt K s at) 0 (omega (arith, part-label, f .low)) (omega (arith, part-label, f .high)) (omega (arith, part-holds K s at, f .short)),
+        eq-eqb (length (partAt K s at)) (sizeOf K (lengthAt (partAt K s at) 0)) (part-long ∙ ap (sizeOf K) (sym (part-holds K s at))),
+        eq-eqb (lengthAt s at) (lengthAt (partAt K s at) 0) (sym (part-holds K s at)),
       )
 
 -- ---- the table of a row's reading

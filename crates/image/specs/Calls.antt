@@ -100,7 +100,7 @@ unfoldable pub allRight : List ℕ → List ℕ → Bool
 allRight s [] = true
 allRight s (a ∷ rs) = rightPart (kindOf s) (partAt (kindOf s) s a) (lengthAt s a) && allRight s rs
 
--- of an image
+-- inspect's lines, of an image
 abbrev pub inspectTable : List ℕ → List Line
 inspectTable s = inspectLines (isSome (chainOf s)) (allRight s (recordsOf s))
 

@@ -17,6 +17,7 @@ pub record Compared (a b : List ℕ) (n i : ℕ) : Type 0 where
   pub within : i ≤ n
   pub rest : same (drop (8 * i) a) (drop (8 * i) b) ≡ same a b
 
+-- none yet
 pub compared-none : (a b : List ℕ) (n : ℕ) → Compared a b n 0
 compared-none a b n = record { within = omega arith; rest = refl }
 

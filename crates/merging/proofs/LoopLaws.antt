@@ -26,7 +26,7 @@ use Rattle.merging.specs.Merged.{rowAt, rowsFrom, rowsOf, hasRow, rowsBu
 use Rattle.merging.specs.Working.{RightRecord, Marks, Places, marked, unmarked, Measured, nextTo, recordsTo, Copied}
 use Rattle.merging.specs.Calls.{mergedRows}
 use Rattle.merging.proofs.RowsLaws.{RowWalk, row-walk-none, row-walk-facts, row-walk-fresh, row-walk-more, row-walk-rest, row-walk-done, turn, label-right}
-use Rattle.merging.proofs.RowsLaws.{rows-more, bits-length, rowIf, row-placed, but-append, but-out, but-in, but-none, but-ext, conflict-append}
+use Rattle.merging.proofs.RowsLaws.{from-more, bits-length, rowIf, row-placed, but-append, but-out, but-in, but-none, but-ext, conflict-append}
 use Rattle.merging.proofs.RecordsLaws.{copied-none, copied-append, copied-written}
 
 -- ---- places by label
@@ -37,6 +37,7 @@ pub record Placing (s places : List ℕ) (at : ℕ) : Type 0 where
   pub long : Marks places
   pub each : (label : ℕ) → label ≤ mostLabel → getD places label 0 ≡ placeIn 0 (placeOf s label past)
 
+-- where it starts
 pub placing-none : (s : List ℕ) → Obeys s → Placing s (replicate (mostLabel + 1) 0) (unitBytes * num s 0 4)
 unfolding placeOf
 placing-none s o =
@@ -47,6 +48,7 @@ placing-none s o =
       each = λ label l. getD-replicate {A = ℕ} (mostLabel + 1) label 0 0 (omega arith);
     }
 
+-- a turn
 pub placing-more : {s places : List ℕ} {at : ℕ} (w : Placing s places at) → (at ≡ 0 → ⊥) → (here next : ℕ) → here ≡ labelAt s at
     → next ≡ unitBytes * nextAt s at → Placing s (set places here at) next
 placing-more {s} {places} {at} w n here next q e =
@@ -70,15 +72,17 @@ placing-more {s} {places} {at} w n here next q e =
         getD-set-other places here label at 0 (λ z. eqb-false _ _ p (sym q ∙ sym z))
         ∙ ap (λ (t : Bool). cond t at (getD places label 0)) (sym p) ∙ more label l
 
+-- where it ends
 pub placing-done : {s places : List ℕ} {at : ℕ} → Placing s places at → at ≡ 0 → Places s places
 placing-done {s} w z =
     record { long = w .long; each = λ label l. w .each label l ∙ ap (λ (bs : List ℕ). placeIn 0 (placeOf s label bs)) (walk-done (w .walk .walk) z) }
 
 -- ---- marks by label
--- a label without a mark, or with one
+-- a label without a mark
 pub mark-none : (marks : List ℕ) (label l : ℕ) → l ≡ label → getD marks l 0 ≡ 0 → marked marks label ≡ false
 mark-none marks label l e z = simp (sym e, eq-eqb (getD marks l 0) 0 z)
 
+-- a label with one
 pub mark-some : (marks : List ℕ) (label l : ℕ) → l ≡ label → (getD marks l 0 ≡ 0 → ⊥) → marked marks label ≡ true
 mark-some marks label l e n = simp (sym e, ne-eqb (getD marks l 0) 0 n)
 
@@ -92,6 +96,7 @@ pub record Measuring (K : Kind) (s marks : List ℕ) (at rows bytes : ℕ) : Typ
   pub few : rows ≤ length past
   pub bounded : bytes ≤ mostBytes * rows
 
+-- where it starts
 pub measuring-none : (K : Kind) (s marks : List ℕ) → Obeys s → Measuring K s marks (unitBytes * num s 0 4) 0 0
 unfolding rowsBut rowsFrom sizesOf
 measuring-none K s marks o =
@@ -102,7 +107,7 @@ module _ {K : Kind} {s marks : List ℕ} {at rows bytes : ℕ} (w : Measuring K 
   pub measuring-out : (next : ℕ) → next ≡ unitBytes * nextAt s at → marked marks (labelAt s at) ≡ true → Measuring K s marks next rows bytes
   measuring-out next e m =
       let z : unmarked marks (rowsFrom s (w .past ++ (at ∷ []))) ≡ unmarked marks (rowsFrom s (w .past)) =
-      ap (unmarked marks) (rows-more s (w .past) at) ∙ but-out (marked marks) (rowsFrom s (w .past)) (rowAt s at) m in
+      ap (unmarked marks) (from-more s (w .past) at) ∙ but-out (marked marks) (rowsFrom s (w .past)) (rowAt s at) m in
       record {
         past = w .past ++ (at ∷ []);
         walk = row-walk-more (w .walk) n next e;
@@ -118,7 +123,7 @@ module _ {K : Kind} {s marks : List ℕ} {at rows bytes : ℕ} (w : Measuring K 
   measuring-in F k next size e q m =
       let qs : List Labelled = unmarked marks (rowsFrom s (w .past)) in
       let z : unmarked marks (rowsFrom s (w .past ++ (at ∷ []))) ≡ qs ++ (rowAt s at ∷ []) =
-      ap (unmarked marks) (rows-more s (w .past) at) ∙ but-in (marked marks) (rowsFrom s (w .past)) (rowAt s at) m in
+      ap (unmarked marks) (from-more s (w .past) at) ∙ but-in (marked marks) (rowsFrom s (w .past)) (rowAt s at) m in
       record {
         past = w .past ++ (at ∷ []);
         walk = row-walk-more (w .walk) n next e;
@@ -136,6 +141,7 @@ module _ {K : Kind} {s marks : List ℕ} {at rows bytes : ℕ} (w : Measuring K 
             );
       }
 
+-- where it ends
 pub measuring-done : {K : Kind} {s marks : List ℕ} {at rows bytes : ℕ} → Measuring K s marks at rows bytes → at ≡ 0
     → Measured K (unmarked marks (rowsOf s)) rows bytes
 measuring-done {K} {s} {marks} w z =
@@ -180,6 +186,7 @@ pub record Comparing (first second : List ℕ) (at : ℕ) : Type 0 where
   pub walk : RowWalk second at past
   pub equal : conflict (rowsOf first) (rowsFrom second past) ≡ false
 
+-- where it starts
 pub comparing-none : (first second : List ℕ) → Obeys second → Comparing first second (unitBytes * num second 0 4)
 unfolding conflict rowsFrom
 comparing-none first second o = record { past = []; walk = row-walk-none second o; equal = refl }
@@ -194,7 +201,7 @@ module _ {first second : List ℕ} {at : ℕ} (w : Comparing first second at) (n
         past = w .past ++ (at ∷ []);
         walk = row-walk-more (w .walk) n next e;
         equal =
-            ap (conflict (rowsOf first)) (rows-more second (w .past) at)
+            ap (conflict (rowsOf first)) (from-more second (w .past) at)
             ∙ conflict-append (rowsOf first) (rowsFrom second (w .past)) (rowAt second at ∷ [])
             ∙ simp (w .equal, h);
       }
@@ -207,6 +214,7 @@ module _ {first second : List ℕ} {at : ℕ} (w : Comparing first second at) (n
       ∙ conflict-append (rowsOf first) (rowsFrom second (w .past)) (rowAt second at ∷ rowsFrom second (turn (w .walk) n .rest))
       ∙ simp (w .equal, h))
 
+-- where it ends
 pub comparing-done : {first second : List ℕ} {at : ℕ} → Comparing first second at → at ≡ 0 → false ≡ conflict (rowsOf first) (rowsOf second)
 comparing-done {first} w z = sym (sym (ap (conflict (rowsOf first)) (row-walk-done (w .walk) z)) ∙ w .equal)
 
@@ -218,6 +226,7 @@ pub record CopyingRows (K : Kind) (s marks out₀ : List ℕ) (start end : ℕ) 
   pub long : length out ≡ length out₀
   pub copied : Copied K out₀ start end (unmarked marks (rowsFrom s past)) out at
 
+-- where it starts
 pub copying-rows-none : (K : Kind) → KindFits K → (s marks out : List ℕ) (start end : ℕ) → Obeys s
     → CopyingRows K s marks out start end out (unitBytes * num s 0 4) start
 unfolding rowsBut rowsFrom
@@ -235,7 +244,7 @@ module _ {K : Kind} (F : KindFits K) {s marks out₀ : List ℕ} {start end : �
         long = w .long;
         copied =
             subst (λ (rs : List Labelled). Copied K out₀ start end rs out at)
-            (sym (ap (unmarked marks) (rows-more s (w .past) from) ∙ but-out (marked marks) (rowsFrom s (w .past)) (rowAt s from) m)) (w .copied);
+            (sym (ap (unmarked marks) (from-more s (w .past) from) ∙ but-out (marked marks) (rowsFrom s (w .past)) (rowAt s from) m)) (w .copied);
       }
 
   module _ (m : marked marks (labelAt s from) ≡ false) where
@@ -269,10 +278,11 @@ module _ {K : Kind} (F : KindFits K) {s marks out₀ : List ℕ} {start end : �
           long = ap length (k .same) ∙ length-sets out at (recordsTo K at end (rowAt s from ∷ [])) ∙ w .long;
           copied =
               subst (λ (rs : List Labelled). Copied K out₀ start end rs out′ after)
-              (sym (ap (unmarked marks) (rows-more s (w .past) from) ∙ but-in (marked marks) (rowsFrom s (w .past)) (rowAt s from) m))
+              (sym (ap (unmarked marks) (from-more s (w .past) from) ∙ but-in (marked marks) (rowsFrom s (w .past)) (rowAt s from) m))
               (copied-append K F (unmarked marks (rowsFrom s (w .past))) (rowAt s from ∷ []) (w .copied) k);
         }
 
+-- where it ends
 pub copying-rows-done : {K : Kind} {s marks out₀ : List ℕ} {start end : ℕ} {out : List ℕ} {from at : ℕ} → CopyingRows K s marks out₀ start end out from at
     → from ≡ 0 → Copied K out₀ start end (unmarked marks (rowsOf s)) out at
 copying-rows-done {K} {s} {marks} {out₀} {start} {end} {out} {from} {at} w z =

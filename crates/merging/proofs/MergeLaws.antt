@@ -37,7 +37,7 @@ use Rattle.image.proofs.ShelfLaws.{GoodRow, GoodRows, rows-end, rows-more, rows
 use Rattle.image.proofs.InspectLaws.{obeys-chain, obeys-passed, inspect-passed, inspect-refused, written-obeys, written-inspected}
 use Rattle.merging.specs.Merged.{rowAt, rowsFrom, rowsOf, hasRow, rowsBut, conflict}
 use Rattle.merging.specs.Calls.{mergedRows, roomFor, mergeLines, mergeTable, mergeOutcome, giver, ReadAlike, MergedImage}
-use Rattle.merging.proofs.RowsLaws.{rows-length, rows-at, bits-length, rowIf, row-placed, row-append, merged-row, conflict-none, label-right}
+use Rattle.merging.proofs.RowsLaws.{from-length, from-at, bits-length, rowIf, row-placed, row-append, merged-row, conflict-none, label-right}
 
 -- ---- good rows
 -- a sound record has a good row
@@ -92,10 +92,10 @@ written-rows K F N rs base g =
     let s : List ℕ = written K rs base in
     let d : Labelled = record { label = 0; bits = [] } in
     let bs : List ℕ = places K 1 rs in
-    let n : length (rowsFrom s bs) ≡ length rs = rows-length s bs ∙ length-places K F 1 rs in
+    let n : length (rowsFrom s bs) ≡ length rs = from-length s bs ∙ length-places K F 1 rs in
     ap (rowsFrom s) (written-records K F N rs base g)
     ∙ ext-getD d (rowsFrom s bs) rs n (λ i l.
-    rows-at s bs d i (omega (arith, rows-length s bs))
+    from-at s bs d i (omega (arith, from-length s bs))
     ∙ row-read K s (getD bs i 0) (getD rs i d) (written-kind K F N rs base g) (written-row K F N rs base g d i (omega (arith, n))))
 
 -- ---- rows read alike
@@ -275,12 +275,12 @@ module _ (first second third : List ℕ) (pass : judge (mergeTable first second 
       go o none d e z = absurd (false≢true z)
       go none (some b) d e z = subst (λ (p : Option ℕ). ReadAlike image (cond (isSome p) first second) label) d (result-reads label)
       go (some a) (some b) d e z =
-          let same : rowAt first a .bits ≡ rowAt second b .bits =
+          let alike : rowAt first a .bits ≡ rowAt second b .bits =
           conflict-none (rowsOf first) (rowsOf second) label (rowAt first a) (rowAt second b) equal (row first a d) (row second b e) in
           let given : GivesBack image label (rowAt first a .bits) =
           written-gives K F N rs third good label (rowAt first a)
           (merged-placed first second label ∙ ap (λ (p : Option ℕ). orElse (rowIf first p) (rowIf second (recordWith second label))) d) in
-          read-same image second label (rowAt second b .bits) (subst (GivesBack image label) same given) (obeys-gives second label b second-obeys e)
+          read-same image second label (rowAt second b .bits) (subst (GivesBack image label) alike given) (obeys-gives second label b second-obeys e)
 
   -- an accepted merge leaves an image of the merged rows
   pub merge-image : MergedImage first second image

@@ -41,8 +41,8 @@ module _ (K : Kind) (s : List ℕ) (a : ℕ) (f : RightRecord s a) (kind : kindO
   part-whole = ap length p ∙ part-size (kindOf s) s a (f .inside) ∙ ap (λ (j : Kind). sizeOf j (lengthAt s a)) kind
 
   -- its length
-  part-length : lengthAt part 0 ≡ lengthAt s a
-  part-length = ap (λ (l : List ℕ). lengthAt l 0) p ∙ part-holds (kindOf s) s a
+  part-says : lengthAt part 0 ≡ lengthAt s a
+  part-says = ap (λ (l : List ℕ). lengthAt l 0) p ∙ part-holds (kindOf s) s a
 
   -- its bits
   part-row : rowBits K part (lengthAt s a) ≡ rowAt s a .bits
@@ -189,8 +189,8 @@ module _ (K : Kind) (s t : List ℕ) (a b : ℕ) (f : RightRecord s a) (g : Righ
   -- and only they
   equal-rest : drop 8 p ≡ drop 8 q → rowAt s a .bits ≡ rowAt t b .bits
   equal-rest e =
-      let same : lengthAt p 0 ≡ lengthAt q 0 = num-ext p q 8 8 4 (λ i l. byte-kept 8 q p e (8 + i) (omega arith)) in
-      let n : lengthAt s a ≡ lengthAt t b = sym (part-length K s a f ks p ep) ∙ same ∙ part-length K t b g kt q eq in
+      let long : lengthAt p 0 ≡ lengthAt q 0 = num-ext p q 8 8 4 (λ i l. byte-kept 8 q p e (8 + i) (omega arith)) in
+      let n : lengthAt s a ≡ lengthAt t b = sym (part-says K s a f ks p ep) ∙ long ∙ part-says K t b g kt q eq in
       sym (part-row K s a f ks p ep) ∙ bits-kept 8 q p e (omega arith) K (lengthAt s a) ∙ ap (rowBits K q) n ∙ part-row K t b g kt q eq
 
   -- so the bytes decide

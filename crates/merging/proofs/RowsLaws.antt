@@ -11,7 +11,7 @@ use lib.Dec.{eqb}
 use borrow.Author.Tests.{eqb-true}
 use Rattle.words.specs.Bits.{same}
 use Rattle.words.specs.Strip.{orElse}
-use Rattle.words.proofs.BoolLaws.{true-false, not-not}
+use Rattle.words.proofs.BoolLaws.{true-false, not-not, or-none}
 use Rattle.words.proofs.SameLaws.{same-eq}
 use Rattle.image.specs.Bytes.{num}
 use Rattle.image.specs.Layout.{unitBytes}
@@ -28,21 +28,21 @@ use Rattle.merging.specs.Working.{RightRecord}
 
 -- ---- rows by their records
 -- some records, then others
-rows-append : (s xs ys : List ℕ) → rowsFrom s (xs ++ ys) ≡ rowsFrom s xs ++ rowsFrom s ys
+from-append : (s xs ys : List ℕ) → rowsFrom s (xs ++ ys) ≡ rowsFrom s xs ++ rowsFrom s ys
 unfolding rowsFrom
-rows-append s [] ys = refl
-rows-append s (a ∷ xs) ys = ap (λ (l : List Labelled). rowAt s a ∷ l) (rows-append s xs ys)
+from-append s [] ys = refl
+from-append s (a ∷ xs) ys = ap (λ (l : List Labelled). rowAt s a ∷ l) (from-append s xs ys)
 
 -- one record more
-pub rows-more : (s xs : List ℕ) (a : ℕ) → rowsFrom s (xs ++ (a ∷ [])) ≡ rowsFrom s xs ++ (rowAt s a ∷ [])
+pub from-more : (s xs : List ℕ) (a : ℕ) → rowsFrom s (xs ++ (a ∷ [])) ≡ rowsFrom s xs ++ (rowAt s a ∷ [])
 unfolding rowsFrom
-rows-more s xs a = rows-append s xs (a ∷ [])
+from-more s xs a = from-append s xs (a ∷ [])
 
 -- as many as records
-pub rows-length : (s xs : List ℕ) → length (rowsFrom s xs) ≡ length xs
+pub from-length : (s xs : List ℕ) → length (rowsFrom s xs) ≡ length xs
 unfolding rowsFrom
-rows-length s [] = refl
-rows-length s (a ∷ xs) = ap suc (rows-length s xs)
+from-length s [] = refl
+from-length s (a ∷ xs) = ap suc (from-length s xs)
 
 -- a row has as many bits as its record says
 pub bits-length : (s : List ℕ) (a : ℕ) → length (rowAt s a .bits) ≡ lengthAt s a
@@ -111,11 +111,6 @@ conflict-append first (r ∷ xs) ys =
     go : (t : Bool) → (t || (conflict first xs || conflict first ys)) ≡ (t || conflict first xs || conflict first ys)
     go true = refl
     go false = refl
-
--- neither of two tests holds
-or-none : (a b : Bool) → (a || b) ≡ false → (a ≡ false) × (b ≡ false)
-or-none true b h = absurd (true-false refl h)
-or-none false b h = (refl, h)
 
 -- where there are none, the rows of a label in both have the same bits
 pub conflict-none : (first rs : List Labelled) (label : ℕ) (q r : Labelled) → conflict first rs ≡ false → rowOf label first ≡ some q → rowOf label rs ≡ some r
@@ -191,7 +186,7 @@ module _ {s : List ℕ} {at : ℕ} {past : List ℕ} (w : RowWalk s at past) (n 
   -- the rows after those walked
   pub row-walk-rest : rowsOf s ≡ rowsFrom s past ++ (rowAt s at ∷ rowsFrom s (turn .rest))
   unfolding rowsFrom
-  row-walk-rest = ap (rowsFrom s) (sym (turn .whole)) ∙ rows-append s past (at ∷ turn .rest)
+  row-walk-rest = ap (rowsFrom s) (sym (turn .whole)) ∙ from-append s past (at ∷ turn .rest)
 
 -- where it ends it has met all rows
 pub row-walk-done : {s : List ℕ} {at : ℕ} {past : List ℕ} → RowWalk s at past → at ≡ 0 → rowsFrom s past ≡ rowsOf s
@@ -199,11 +194,11 @@ row-walk-done {s} w z = ap (rowsFrom s) (walk-done (w .walk) z)
 
 -- ---- one row, by its place or by its label
 -- that of record i
-pub rows-at : (s bs : List ℕ) (d : Labelled) (i : ℕ) → i < length bs → getD (rowsFrom s bs) i d ≡ rowAt s (getD bs i 0)
+pub from-at : (s bs : List ℕ) (d : Labelled) (i : ℕ) → i < length bs → getD (rowsFrom s bs) i d ≡ rowAt s (getD bs i 0)
 unfolding rowsFrom
-rows-at s [] d i l = absurd (omega arith)
-rows-at s (a ∷ bs) d zero l = refl
-rows-at s (a ∷ bs) d (suc i) l = rows-at s bs d i (omega arith)
+from-at s [] d i l = absurd (omega arith)
+from-at s (a ∷ bs) d zero l = refl
+from-at s (a ∷ bs) d (suc i) l = from-at s bs d i (omega arith)
 
 -- the rows of one list, then of another
 pub row-append : (label : ℕ) (xs ys : List Labelled) → rowOf label (xs ++ ys) ≡ orElse (rowOf label xs) (rowOf label ys)

@@ -17,12 +17,11 @@ use Rattle.merging.specs.Merged.{rowsOf, merged, conflict}
 abbrev pub mergedRows : List ℕ → List ℕ → List Labelled
 mergedRows first second = merged (rowsOf first) (rowsOf second)
 
--- rows of kind K go into a buffer of so many bytes: it has 16 to 2^32, and they end inside it
+-- room for rows of kind K in a buffer: it has 16 to 2^32 bytes, and they end inside it
 abbrev pub roomFor : Kind → List Labelled → ℕ → Bool
 roomFor K rs bytes = goodSize bytes && leb (unitBytes + sizesOf K rs) bytes
 
--- two images that pass inspection: 18 a label in both with unequal rows; 13 the result does not end inside the third buffer, or that has under 16 or over 2^32
--- bytes
+-- two images that pass inspection: 18 a label in both with unequal rows; 13 no room for the result in the third buffer
 abbrev pub mergeLines : List ℕ → List ℕ → ℕ → List Line
 mergeLines first second bytes =
     (conflict (rowsOf first) (rowsOf second) ⇒ 18) ∷ (not (roomFor (kindOf first) (mergedRows first second) bytes) ⇒ 13) ∷ []
@@ -49,8 +48,7 @@ pub record ReadAlike (s t : List ℕ) (label : ℕ) : Type 0 where
   pub count : (v i : ℕ) (o p : Told) → RowRanked s label v i o → RowRanked t label v i p → o ≡ p
   pub find : (v k : ℕ) (o p : Told) → RowSelected s label v k o → RowSelected t label v k p → o ≡ p
 
--- what an accepted merge leaves: an image that passes inspection with so many rows, the merged ones; every label that either had and no other; each row read as
--- in the image that gave it, and one that stood in both as in either
+-- what an accepted merge leaves: it passes inspection with that number of rows, and each is read as in the image that gave it, one in both as in either
 pub record MergedImage (first second third : List ℕ) : Type 0 where
   pub inspected : inspectTold third ≡ value (length (mergedRows first second))
   pub rows : rowsOf third ≡ mergedRows first second

@@ -38,7 +38,7 @@ marked marks label = not (eqb (getD marks label 0) 0)
 abbrev pub unmarked : List ℕ → List Labelled → List Labelled
 unmarked marks rs = rowsBut (marked marks) rs
 
--- so many rows, and the bytes of their records
+-- so many rows, 64 at most, and the bytes of their records, with a bound
 pub record Measured (K : Kind) (rs : List Labelled) (rows bytes : ℕ) : Type 0 where
   pub number : rows ≡ length rs
   pub sizes : bytes ≡ sizesOf K rs

@@ -53,7 +53,7 @@ pub extern "C" fn image_inspect(image: &[u8]) -> u64
     coded(inspect(image))
 }
 
-// merge: the first image's rows, then those of the second whose label the first lacks, written out over the third.
+// merge: the first image's rows, then those of the second whose label the first lacks, written out over what the third buffer held.
 #[no_mangle]
 pub extern "C" fn image_merge(first: &[u8], second: &[u8], third: &mut [u8]) -> u64
     ensures { λ r. ⌜ (r ≡ codedOf (mergeOutcome (now (first .entry)) (now (second .entry)) (now (third .entry)) .told)) ×

@@ -5,8 +5,8 @@ use lib.ListN.{length}
 use Rattle.image.specs.Chain.{kindOf}
 use Rattle.image.proofs.ChainLaws.{RecordFacts, chain-facts}
 use Rattle.image.proofs.WalkLaws.{left, left-less}
-use Rattle.listing.proofs.StoreLaws.{put-length}
 use Rattle.image.proofs.InspectLaws.{obeys-chain}
+use Rattle.listing.proofs.StoreLaws.{put-length}
 use Rattle.listing.proofs.RowsLaws.{RowsPut, rows-none, rows-record, rows-room, rows-more, rows-done}
 use Rattle.listing.proofs.rows.put_rows.Statement.{statement}
 use Rattle.listing.proofs.rows.put_rows.Tie as tie
