@@ -116,6 +116,7 @@ static void expect_order(void)
     EXPECT(MERGE(row, longer, ROOM), REFUSED(STRIP_CONFLICT));
     EXPECT(MERGE(row, same, 559), REFUSED(STRIP_NO_ROOM));
     EXPECT(MERGE(row, same, 560), 1);
+    EXPECT(MERGE(row, row, 560), 1);
     EXPECT(MERGE(none, empty_too, 15), REFUSED(STRIP_NO_ROOM));
     EXPECT(MERGE(none, empty_too, 16), 0);
     EXPECT(image_merge(NULL, 0, NULL, 0, NULL, 0), REFUSED(STRIP_UNSOUND));
@@ -144,11 +145,11 @@ static void expect_borders(void)
         for (size_t b = 0; b < COUNT_OF(small); b++) {
             struct image first = with(empty(ROOM), 5, small[a], CAPACITY, words);
             struct image second = with(with(empty(ROOM), 64, small[a], CAPACITY, words), 5, small[b], CAPACITY, words);
-            struct image other = with(with(empty(ROOM), 1, small[b], CAPACITY, words), 2, 17, CAPACITY, words);
+            struct image apart = with(with(empty(ROOM), 1, small[b], CAPACITY, words), 2, 17, CAPACITY, words);
             hold_merge("one label in both", &first, &second, ROOM);
             hold_merge("one label in both", &second, &first, ROOM);
-            hold_merge("no label in both", &first, &other, ROOM);
-            hold_merge("no label in both", &other, &first, ROOM);
+            hold_merge("no label in both", &first, &apart, ROOM);
+            hold_merge("no label in both", &apart, &first, ROOM);
         }
 }
 

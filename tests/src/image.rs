@@ -9,6 +9,7 @@ use crate::guarded::Guarded;
 use crate::refusal::{answer, Answer, Refusal};
 use crate::waiting::Pointers;
 use crate::{Handle, Lent};
+use std::ops::Range;
 
 /// Runs a call on bytes between two guards.
 fn run(bytes: &[u8], call: impl FnOnce(*mut u8, usize) -> u64) -> (u64, Guarded<u8>) {
@@ -63,6 +64,19 @@ pub unsafe fn freeze_from((h, words, count): Pointers, image: &mut [u8], label: 
 pub fn merge(first: &[u8], second: &[u8], third: &mut [u8]) -> Answer {
     change(third, |to, room| {
         told_of(first, |xs, nx| told_of(second, |ys, ny| unsafe { image_merge(xs, nx, ys, ny, to, room) }))
+    })
+}
+
+/// The same of two parts of one buffer, which may overlap.
+pub fn merge_parts(bytes: &[u8], parts: [Range<usize>; 2], third: &mut [u8]) -> Answer {
+    change(third, |to, room| {
+        told_of(bytes, |memory, size| {
+            let [(xs, nx), (ys, ny)] = parts.map(|part| {
+                assert!(part.start <= part.end && part.end <= size);
+                (memory.wrapping_add(part.start), part.len())
+            });
+            unsafe { image_merge(xs, nx, ys, ny, to, room) }
+        })
     })
 }
 

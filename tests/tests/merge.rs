@@ -1,10 +1,11 @@
 //! The merge of two images into a third buffer, against the plain model and against bytes worked out by hand.
+use std::ops::Range;
 use std::ptr::{null, null_mut};
 use strip_tests::borders::{FAR, LARGEST, MOST_BYTES, SMALL};
 use strip_tests::cases::Cases;
 use strip_tests::draw::{change_numbers, damage, labels, positions};
 use strip_tests::ffi::image_merge;
-use strip_tests::image::{inspect, merge, row_get, row_label, row_length, row_rank, row_select, rows};
+use strip_tests::image::{inspect, merge, merge_parts, row_get, row_label, row_length, row_rank, row_select, rows};
 use strip_tests::layout;
 use strip_tests::merge::owed;
 use strip_tests::model::{length, text};
@@ -16,11 +17,11 @@ use Refusal::{Conflict, LabelAbsent, NoRoom, Unsound, WrongRow};
 
 // ---- one merge against the model
 
-/// Merges into a copy of the third buffer: the answer and every byte of the copy, which is given back. A result passes
-/// inspection with as many rows as were told.
-fn compare(first: &[u8], second: &[u8], third: &[u8]) -> (Answer, Vec<u8>) {
+/// Holds a merge of two images to the model: the answer and every byte of a copy of the third buffer, which is given back. A
+/// result passes inspection with as many rows as were told.
+fn hold(first: &[u8], second: &[u8], third: &[u8], call: impl FnOnce(&mut [u8]) -> Answer) -> (Answer, Vec<u8>) {
     let (mut wanted, mut result) = (third.to_vec(), third.to_vec());
-    let (due, told) = (owed(first, second, &mut wanted), merge(first, second, &mut result));
+    let (due, told) = (owed(first, second, &mut wanted), call(&mut result));
     assert_eq!(told, due, "{} and {} bytes into {}", first.len(), second.len(), third.len());
     let other = result.iter().zip(&wanted).position(|(is, wanted)| is != wanted);
     assert_eq!(other, None, "the first byte that is another, told {told:?}");
@@ -30,7 +31,21 @@ fn compare(first: &[u8], second: &[u8], third: &[u8]) -> (Answer, Vec<u8>) {
     (told, result)
 }
 
-/// The same, and the answer is this one.
+/// Merges two images from buffers of their own.
+fn compare(first: &[u8], second: &[u8], third: &[u8]) -> (Answer, Vec<u8>) {
+    hold(first, second, third, |result| merge(first, second, result))
+}
+
+/// Merges an image and a part of it from one buffer, and the part and the image.
+fn compare_part(image: &[u8], part: Range<usize>, third: &[u8]) -> [Answer; 2] {
+    let all = 0..image.len();
+    [[all.clone(), part.clone()], [part, all]].map(|parts| {
+        let [first, second] = parts.clone().map(|part| &image[part]);
+        hold(first, second, third, |result| merge_parts(image, parts, result)).0
+    })
+}
+
+/// Merges two images from buffers of their own, and the answer is this one.
 fn expect(first: &[u8], second: &[u8], third: &[u8], wanted: Answer) -> Vec<u8> {
     let (told, result) = compare(first, second, third);
     assert_eq!(told, wanted);
@@ -38,31 +53,38 @@ fn expect(first: &[u8], second: &[u8], third: &[u8], wanted: Answer) -> Vec<u8> 
 }
 
 /// The readings of a label's row at a position.
-fn readings(image: &[u8], label: u64, i: u64) -> [Answer; 5] {
+fn readings(image: &[u8], label: u64, i: u64) -> [Answer; 7] {
     [
         row_get(image, label, i),
         row_rank(image, label, 0, i),
         row_rank(image, label, 1, i),
+        row_rank(image, label, 2, i),
         row_select(image, label, 0, i),
         row_select(image, label, 1, i),
+        row_select(image, label, 2, i),
     ]
 }
 
-/// Every reading of a result, by every label and by none, is that of the image which gave the row.
+/// Every reading of a result, by every label and by none, is that of each image which has the row.
 fn compare_readings(random: &mut Random, first: &[u8], second: &[u8], result: &[u8]) {
     let (mut wanted, absent) = rows(first);
-    let in_first = |label: u64| row_length(first, label).is_ok();
-    wanted.extend(rows(second).0.into_iter().filter(|row| !in_first(row.0)));
+    let has = |image: &[u8], label: u64| row_length(image, label).is_ok();
+    wanted.extend(rows(second).0.into_iter().filter(|row| !has(first, row.0)));
     assert_eq!(rows(result), (wanted.clone(), absent));
     for k in (wanted.len() as u64..=65).chain(FAR) {
         assert_eq!(row_label(result, k), Err(LabelAbsent), "row {k} of {}", wanted.len());
     }
     for label in 0..=65 {
-        let giver = if in_first(label) { first } else { second };
-        assert_eq!(row_length(result, label), row_length(giver, label), "length of label {label}");
-        let bits = layout::row(giver, label).map_or(Vec::new(), |row| row.bits);
+        let givers = match [first, second].map(|image| has(image, label)) {
+            [true, true] => vec![first, second],
+            [true, false] => vec![first],
+            _ => vec![second],
+        };
+        assert!(givers.iter().all(|giver| row_length(giver, label) == row_length(result, label)), "length of {label}");
+        let bits = layout::row(givers[0], label).map_or(Vec::new(), |row| row.bits);
         for i in positions(random, &bits, 3) {
-            assert_eq!(readings(result, label, i), readings(giver, label, i), "label {label} at {i}");
+            let told = readings(result, label, i);
+            assert!(givers.iter().all(|giver| readings(giver, label, i) == told), "label {label} at {i}: {told:?}");
         }
     }
 }
@@ -389,6 +411,53 @@ fn third_buffers() {
     }
 }
 
+// ---- one buffer
+
+/// The same bytes lent for both images; an image, and a prefix or a suffix of it. A prefix with all records is the same image.
+#[test]
+fn one_buffer() {
+    let mut cases = Cases::new("merge", "one_buffer", 812);
+    for number in (0..6).flat_map(|number| [number; 8]) {
+        cases.run(|random| {
+            let rows = some_rows(random, number);
+            let (image, end) = (image_of(random, &rows), needed(&rows, &[]));
+            let (size, number) = (image.len(), Ok(number as u64));
+            for room in [0, 16, end - 1, end, end + 40] {
+                let third = garbage(random, room);
+                assert_eq!(compare_part(&image, 0..size, &third), [if room < end { Err(NoRoom) } else { number }; 2]);
+            }
+            let places = layout::chain(&image).unwrap();
+            let past = places.last().map_or(16, |at| at + layout::part(&image, *at).len());
+            let third = garbage(random, end);
+            let some = [0; 6].map(|_| random.below(size));
+            for at in places.into_iter().chain([0, 1, 15, 16, past - 1, past, size - 1, size]).chain(some) {
+                let wanted = if at < past { Err(Unsound) } else { number };
+                assert_eq!(compare_part(&image, 0..at, &third), [wanted; 2], "the first {at} bytes");
+                let (inspected, told) = (layout::inspect(&image[at..]), compare_part(&image, at..size, &third));
+                assert!(inspected.is_ok() || told == [inspected; 2], "those from {at}: {told:?}, not {inspected:?}");
+            }
+        });
+    }
+}
+
+/// A suffix that is an image too, by a header in the gap before the last record: this is in both chains.
+#[test]
+fn one_record_in_both() {
+    let mut cases = Cases::new("merge", "one_record_in_both", 813);
+    for number in (1..6).flat_map(|number| [number; 8]) {
+        cases.run(|random| {
+            let rows = some_rows(random, number);
+            let gapped: Vec<_> = rows.iter().map(|(label, bits)| (1, *label, bits.clone())).collect();
+            let mut image = layout::image(&gapped, random.below(3));
+            let header = layout::chain(&image).unwrap()[number - 1] - 16;
+            layout::clear(&mut image[header..]).unwrap();
+            layout::store(&mut image, header, 1);
+            let third = garbage(random, needed(&rows, &[]));
+            assert_eq!(compare_part(&image, header..image.len(), &third), [Ok(number as u64); 2]);
+        });
+    }
+}
+
 // ---- refusals
 
 /// Makes a row of a sound chain wrong, if there is one.
@@ -650,11 +719,12 @@ fn some_second(random: &mut Random, first: &[Frozen]) -> Vec<Frozen> {
     shuffled(random, &list)
 }
 
-/// Changes a byte at times: of the header or of the first numbers of a record, or of a row's ones, entries or padding.
+/// Changes a byte at times: of the header or of the first numbers of a record, of a row's ones, entries or padding, or any.
 fn disturb(random: &mut Random, image: &mut [u8]) {
     match random.below(8) {
         0 => change_numbers(random, image, 1),
         1 => spoil_row(random, image),
+        2 => image[random.below(image.len())] ^= 1 << random.below(8),
         _ => {}
     }
 }
