@@ -34,16 +34,16 @@ slice-aggregate-rows-conflict c = search needs
 rows-conflict-requires : tie.Need-rows-conflict-requires
 rows-conflict-requires c κs = search needs
 
-returns : tie.Need-returns
-returns c =
-    let top = c .before .before .before .before .before .before .before .before .before in
-    merge-conflict _ _ _ (top .pre .0) (top .pre .1) (sym (c .before .rows-conflict .ensures) ∙ c .if1 .taken)
-
 -- no row is unequal
 equal : (c : tie.Else1)
     → let top = c .before .before .before .before .before .before .before .before .before in
     conflict (rowsOf (top .args .first .now)) (rowsOf (top .args .second .now)) ≡ false
 equal c = sym (c .before .rows-conflict .ensures) ∙ c .if1 .left
+
+returns : tie.Need-returns
+returns c =
+    let top = c .before .before .before .before .before .before .before .before .before in
+    merge-conflict _ _ _ (top .pre .0) (top .pre .1) (sym (c .before .rows-conflict .ensures) ∙ c .if1 .taken)
 
 -- where the rows end
 ended : (c : tie.After-measure2)
@@ -81,6 +81,12 @@ add-end-2 c = search needs
 size-good-requires : tie.Need-size-good-requires
 size-good-requires c κs = search needs
 
+-- the size is in range
+good : (c : tie.Else2)
+    → let top = c .before .before .before .before .before .before .before .before .before .before .before .before .before .before .before .before .before in
+    goodSize (length (top .args .third .now)) ≡ true
+good c = sym (c .before .size-good .ensures) ∙ not-false _ (c .if2 .left)
+
 returns-2 : tie.Need-returns-2
 returns-2 c =
     let top = c .before .before .before .before .before .before .before .before .before .before .before .before .before .before .before .before .before in
@@ -89,12 +95,6 @@ returns-2 c =
     let third = top .args .third .now in
     merge-full first second third (top .pre .0) (top .pre .1) (equal (c .before .before .before .before .before .before .before .before))
     (room-sized (kindOf first) (mergedRows first second) (length third) (sym (c .before .size-good .ensures) ∙ not-true _ (c .if2 .taken)))
-
--- the size is in range
-good : (c : tie.Else2)
-    → let top = c .before .before .before .before .before .before .before .before .before .before .before .before .before .before .before .before .before in
-    goodSize (length (top .args .third .now)) ≡ true
-good c = sym (c .before .size-good .ensures) ∙ not-false _ (c .if2 .left)
 
 returns-3 : tie.Need-returns-3
 returns-3 c =
