@@ -1,6 +1,6 @@
 #!/usr/bin/env -S python3 -B
-"""Fills the tables of BENCHMARKS.md and draws its plots, from benchmarks.tsv, which tests/bench/run writes, and
-freeze.tsv, which tests/bench/freeze writes.
+"""Fills the tables of BENCHMARKS.md and draws its plots, from benchmarks.tsv, which tests/bench/run writes, freeze.tsv,
+which tests/bench/freeze writes, and total.tsv, which tests/bench/total writes.
 
 A table stands between the lines `<!-- table NAME -->` and `<!-- end -->`.
 """
@@ -45,6 +45,7 @@ MERGE_POWERS, MERGE_LONG, MERGE_MOST = ("6", "18", "23"), "23", 1.5
 COLUMNS = ("library", "C++", "C++, checked", "scan", "scan, popcnt", "sdsl", "CRoaring")
 PAIR, NOISE, CHECKED = "library / C++", "C++ again / C++", "library / C++, checked"
 COUNTS, SLIDING = "library / count of ones", "sliding count / library"
+CHANGE, CHANGE_NOISE = "library / before", "before again / before"
 PARTS = "library / two inspections + memcpy"
 # A ratio that differs more than this from the quotient of the two times is marked.
 TENTH = 0.1
@@ -107,6 +108,10 @@ HAND = {
     "hand_merged": "`hand_merged`: the same, counts of three vectors merged",
     "hand_popcnt": "`hand_popcnt`: the same with popcnt, which baseline x86-64 has not",
 }
+# The shares of ones with which calls were measured before and after the total came, and how many times the time before
+# each may take; those that may take no more are judged by the noise too.
+TOTAL_SHARES = ("32/64", "1/1024")
+TOTAL_MOST = {"find 1": 1, "find 0": 1, "turn": 1.05, "add": 1.05}
 
 
 class Results:
@@ -157,7 +162,7 @@ def spread(of, key, pair):
     if three is None:
         return ""
     over, under = (sum(of.time(*key, column) for column in side.split(" + ")) for side in pair.split(" / "))
-    mark_ = "*" if pair != NOISE and abs(over / under / three[1] - 1) > TENTH else ""
+    mark_ = "*" if pair not in (NOISE, CHANGE_NOISE) and abs(over / under / three[1] - 1) > TENTH else ""
     return f"{three[1]:.2f}{mark_} ({three[0]:.2f}–{three[2]:.2f})"
 
 
@@ -406,6 +411,19 @@ def short_table(of):
     return table(["length", "before, ns", "library, ns", "library / before"], rows)
 
 
+def total_table(of):
+    """Find, turn and add before and after the total came."""
+    rows = []
+    for key in ((power, share, call) for power in POWERS for share in TOTAL_SHARES for call in TOTAL_MOST):
+        times = [duration(of.time(*key, column)) for column in ("before", "library")]
+        (_, ratio, _), (_, _, noise) = (of.three("ratio", *key, pair) for pair in (CHANGE, CHANGE_NOISE))
+        most = TOTAL_MOST[key[2]]
+        aim, met = ("no slower", ratio <= max(1, noise)) if most == 1 else (f"at most {most}", ratio <= most)
+        ratios = [spread(of, key, pair) for pair in (CHANGE, CHANGE_NOISE)]
+        rows.append([f"2^{key[0]}", key[1], key[2], *times, *ratios, f"{aim}: {'met' if met else 'missed'}"])
+    return with_note(table(["bits", "ones", "call", "before", "library", CHANGE, "before / before", "aim"], rows))
+
+
 def other_machine_table(of, known):
     """The lines on a machine that are not those of another run."""
     return table(["", ""], [row for row in of.kind("machine") if row not in known.kind("machine")])
@@ -579,7 +597,7 @@ def times_plot(of):
 
 
 def main():
-    of, changed = Results("benchmarks.tsv"), Results("freeze.tsv")
+    of, changed, total = (Results(name) for name in ("benchmarks.tsv", "freeze.tsv", "total.tsv"))
     tables = {
         "summary": summary_table, "machine": machine_table, "aims": aims_table, "others": others_table,
         "freeze": freeze_table, "alone": alone_table, "flips": flips_table, "instructions": instructions_table, "memory": memory_table, "stack": stack_table,
@@ -589,7 +607,7 @@ def main():
     made = {name: make(of) for name, make in tables.items()}
     made |= {f"2^{power}": calls_table(of, power) for power in POWERS}
     made |= {"before": before_table(changed), "short": short_table(changed), "places": places_table(changed), "hand": hand_table(changed)}
-    made["before-machine"] = other_machine_table(changed, of)
+    made |= {"before-machine": other_machine_table(changed, of), "total": total_table(total), "total-machine": other_machine_table(total, of)}
 
     def fill(found):
         return "\n".join([found[1], "", *made[found[2]], "", "<!-- end -->"])

@@ -47,7 +47,8 @@ extern "C" {
 
 /* Why a call is refused. A length is that of the strip or of the row. */
 enum strip_refusal {
-    STRIP_BAD_HANDLE = 1,     /* capacity not a multiple of 512 from 512 to 134,217,728, or length above capacity */
+    STRIP_BAD_HANDLE = 1,     /* capacity not a multiple of 512 from 512 to 134,217,728, length above capacity, or
+                                 total above length */
     STRIP_BAD_WORDS = 2,      /* words_len (of two strips first_len, second_len, waiting_len) not capacity / 64 */
     STRIP_BAD_COUNTERS = 3,   /* counters_len not the number that the capacity needs */
     STRIP_POSITION = 4,       /* a position above the length; for a get or a flip also at the length.
@@ -59,7 +60,8 @@ enum strip_refusal {
                                  strip_waiting_find: no outcome has a k-th misfire */
     STRIP_FULL = 7,           /* length at capacity */
     STRIP_BAD_VALUE = 8,      /* v neither 0 nor 1 */
-    STRIP_UNFIT = 9,          /* the record does not fit: a one at or past the length, or a wrong counter */
+    STRIP_UNFIT = 9,          /* the record does not fit: a one at or past the length, a wrong counter, or a total that
+                                 is not the number of ones */
     STRIP_UNSOUND = 10,       /* the image's chain is not sound */
     STRIP_BAD_LABEL = 11,     /* a label not from 1 to 64 */
     STRIP_LABEL_PRESENT = 12, /* a row has the label already */

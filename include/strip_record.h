@@ -9,16 +9,16 @@
  *     static uint32_t counters[STRIP_COUNTERS(512)];
  *     struct strip_record r = strip_record_over(words, STRIP_WORDS(512), counters, STRIP_COUNTERS(512));
  *     if (strip_record_create(&r, 512).refusal == 0 && strip_record_push(&r, 1).refusal == 0)
- *         misfires = strip_record_rank(&r, 1, strip_record_length(&r)).value;
+ *         misfires = strip_record_total(&r);
  */
 #ifndef STRIP_RECORD_H
 #define STRIP_RECORD_H
 
 #include "strips.h"
 
-/* What it holds may grow; strip_record_capacity and strip_record_length read it. */
+/* What it holds may grow; strip_record_capacity, strip_record_length and strip_record_total read it. */
 struct strip_handle {
-    uint64_t capacity, length;
+    uint64_t capacity, length, total;
 };
 
 struct strip_record {
@@ -58,13 +58,15 @@ struct strip_find_range {
 static inline struct strip_record strip_record_over(uint64_t *words, size_t words_len, uint32_t *counters,
                                                     size_t counters_len)
 {
-    struct strip_record r = {{0, 0}, words, words_len, counters, counters_len};
+    struct strip_record r = {{0, 0, 0}, words, words_len, counters, counters_len};
     return r;
 }
 
 /* A record over buffers that hold a strip already, under the handle that was kept with them, as after a reset.
- * strip_record_verify tells whether it fits; it does not see a length that is wrong among zeros, as after the push of
- * a 0 whose handle was not kept. strip_record_fill(&r, 0, 0, 0) makes it fit, by its bits below the length. */
+ * strip_record_verify tells whether it fits, and so whether the total is that of the words, as it is not after a flip
+ * whose handle was not kept; it does not see a length that is wrong among zeros, as after the push of a 0 whose handle
+ * was not kept. strip_record_fill(&r, 0, 0, 0) makes it fit, by its bits below the length, whatever the total; one
+ * above the length is refused, so that handle.total is set to 0 first. */
 static inline struct strip_record strip_record_resume(struct strip_handle handle, uint64_t *words, size_t words_len,
                                                       uint32_t *counters, size_t counters_len)
 {
@@ -75,6 +77,9 @@ static inline struct strip_record strip_record_resume(struct strip_handle handle
 static inline uint64_t strip_record_capacity(const struct strip_record *r) { return r->handle.capacity; }
 
 static inline uint64_t strip_record_length(const struct strip_record *r) { return r->handle.length; }
+
+/* The misfires that the strip holds: a dashboard reads them from the handle after every stroke, with no call. */
+static inline uint64_t strip_record_total(const struct strip_record *r) { return r->handle.total; }
 
 /* The answer of a call that takes no record and returns a uint64_t, as strip_answer_of(image_clear(image, image_len));
  * image_merge is such a call. That of strip_pair_span is an int64_t: see strip_record_pair_span. */
@@ -95,12 +100,13 @@ static inline struct strip_answer strip_record_changed(struct strip_record *r, c
     if (a.refusal == 0) {
         r->handle.capacity = out[3];
         r->handle.length = out[4];
+        r->handle.total = out[5];
     }
     return a;
 }
 
 /* The arguments that the calls on a record r start with; undefined again below. */
-#define STRIP_RECORD_WORDS r->handle.capacity, r->handle.length, r->words, r->words_len
+#define STRIP_RECORD_WORDS r->handle.capacity, r->handle.length, r->handle.total, r->words, r->words_len
 #define STRIP_RECORD_WHOLE STRIP_RECORD_WORDS, r->counters, r->counters_len
 
 /* ---- Changes. */
@@ -188,9 +194,9 @@ static inline struct strip_answer strip_record_freeze(const struct strip_record 
  * under the other's handle: strip_record_resume(second.handle, first.words, first.words_len, NULL, 0). */
 
 /* The arguments that these calls start with; undefined again below. */
-#define STRIP_RECORD_PAIR                                                         \
-    first->handle.capacity, first->handle.length, first->words, first->words_len, \
-        second->handle.capacity, second->handle.length, second->words, second->words_len
+#define STRIP_RECORD_PAIR                                                                              \
+    first->handle.capacity, first->handle.length, first->handle.total, first->words, first->words_len, \
+        second->handle.capacity, second->handle.length, second->handle.total, second->words, second->words_len
 
 static inline struct strip_answer strip_record_pair_both(const struct strip_record *first,
                                                          const struct strip_record *second, uint64_t i)
@@ -239,9 +245,9 @@ static inline struct strip_difference strip_record_pair_span(const struct strip_
  * where the stroke waits, and this 1 is flipped when its pressure has come. */
 
 /* The arguments that these calls start with; undefined again below. */
-#define STRIP_RECORD_WAITING                                                      \
-    strip->handle.capacity, strip->handle.length, strip->words, strip->words_len, \
-        waiting->handle.capacity, waiting->handle.length, waiting->words, waiting->words_len
+#define STRIP_RECORD_WAITING                                                                           \
+    strip->handle.capacity, strip->handle.length, strip->handle.total, strip->words, strip->words_len, \
+        waiting->handle.capacity, waiting->handle.length, waiting->handle.total, waiting->words, waiting->words_len
 
 static inline struct strip_count_range strip_record_waiting_count(const struct strip_record *strip,
                                                                   const struct strip_record *waiting, uint64_t i)

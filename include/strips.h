@@ -3,17 +3,20 @@
  * with the bench's word for it, as add(v); docs/CALLS.md has all of them.
  *
  * A STRIP holds one bit for each stroke, the oldest at position 0: 1 for a misfire, 0 for a good firing. Capacities
- * are the multiples of 512 up to 134,217,728, 0 excluded; a length is at most its capacity.
+ * are the multiples of 512 up to 134,217,728, 0 excluded; a length is at most its capacity, a total at most its length.
  *
  * A RECORD is the memory of a strip: STRIP_WORDS(capacity) words and STRIP_COUNTERS(capacity) counters, which the
  * caller supplies, and of which each call is lent exactly so many. Position p is bit p % 64 of words[p / 64], where
- * bit 0 has weight 1. The counters tell how many ones lie in which blocks, and only the calls read and write them. A
- * record FITS when every bit at and past the length is 0 and every counter is that of the bits. Where accepted,
- * strip_create, strip_fill and strip_truncate always leave a record that fits; strip_push and strip_flip do where it
- * fitted before. (The record of a row, in an image, is another thing: see display.h.)
+ * bit 0 has weight 1. The counters tell how many ones lie in which blocks, and only the calls read and write them.
+ * (The record of a row, in an image, is another thing: see display.h.)
  *
- * A HANDLE is a capacity and a length, the first two arguments of most calls. The caller keeps it: strip_create gives
- * the first, and every other change the one to go on with.
+ * A HANDLE is a capacity, a length and a TOTAL, the number of ones that the strip holds: the first three arguments of
+ * most calls. The caller keeps it: strip_create gives the first, and every other change the one to go on with. So the
+ * misfires of the whole strip are read from the handle, after every stroke, with no call.
+ *
+ * A record FITS when every bit at and past the length is 0, every counter is that of the bits, and the total of its
+ * handle is the number of ones among them. Where accepted, strip_create, strip_fill and strip_truncate always leave a
+ * record that fits; strip_push and strip_flip do where it fitted before.
  *
  * LENDING. A call is lent the elements x[0] to x[x_len - 1] of each buffer x. They are aligned for their type, words
  * and out to 8 bytes, counters to 4, images to 1. The buffers of one call do not overlap, but for the words of two
@@ -25,10 +28,10 @@
  * NUMBERS. Every argument is taken as the 64-bit number that it is, and none is cut: a v of 2^32 + 1 is refused 8, a
  * capacity of 2^32 + 512 is refused 1.
  *
- * REFUSALS are named with each call in the order in which they are judged, and the first that applies is given (but
- * see strip_select on a record that does not fit). A refused call changes no word, no counter and no byte of an image.
- * Of every call that takes a record or its words:
- *   1   capacity not a multiple of 512 from 512 to 134,217,728, such as 0, or a length above it
+ * REFUSALS are named with each call in the order in which they are judged, and the first that applies is given. A
+ * refused call changes no word, no counter and no byte of an image. Of every call that takes a record or its words:
+ *   1   capacity not a multiple of 512 from 512 to 134,217,728, such as 0; or a length above it; or a total above the
+ *       length
  *   2   words_len not capacity / 64; NULL, 0 is always too few
  *   3   counters_len, where counters are taken, not STRIP_COUNTERS(capacity); NULL, 0 is always too few
  * After a semicolon stands the refusal that only a record that does not fit gets. Below each call stands what the
@@ -58,7 +61,7 @@ extern "C" {
  * a length above 134,217,728, they mean nothing. */
 
 /* How many numbers a change writes to `out`; and so of strip_waiting_count and of strip_waiting_find. */
-#define STRIP_OUT 5
+#define STRIP_OUT 6
 #define STRIP_WAITING_COUNT_OUT 3
 #define STRIP_WAITING_FIND_OUT 4
 
@@ -95,17 +98,18 @@ uint64_t strip_counter_count(uint64_t capacity);
  *   length 134,217,729        refused 4 */
 uint64_t image_record_size(uint64_t length);
 
-/* ---- Changes of a record. They write five numbers to `out`, and none past the fifth:
+/* ---- Changes of a record. They write six numbers to `out`, and none past the sixth:
  *   out[0]   the number of the refusal, or 0
  *   out[1]   the first value, 0 where refused
  *   out[2]   the second value, 0 where refused or where there is none
  *   out[3]   the capacity of the handle to go on with
  *   out[4]   its length
- * Refused, they give back the handle that they got, as it was; strip_create, which got none, gives 0, 0. With out_len
- * below 5, NULL and 0 among these, a call does nothing at all: not even `out` changes. */
+ *   out[5]   its total, the misfires that the strip now holds
+ * Refused, they give back the handle that they got, as it was; strip_create, which got none, gives 0, 0, 0. With
+ * out_len below 6, NULL and 0 among these, a call does nothing at all: not even `out` changes. */
 
 /* lay(capacity). Makes every word and every counter 0, whatever they held, and gives the handle of the empty strip of
- * that capacity.
+ * that capacity, with length and total 0.
  * Value: the number of counters.
  * Refusals: 1, 2, 3. The record then stands as it was, and goes on under its last handle.
  *   capacity 0, 513, 134,218,240                   refused 1
@@ -114,35 +118,40 @@ uint64_t image_record_size(uint64_t length);
 void strip_create(uint64_t capacity, uint64_t *words, size_t words_len, uint32_t *counters, size_t counters_len,
                   uint64_t *out, size_t out_len);
 
-/* add(v). Appends v; the length grows by 1.
+/* add(v). Appends v; the length grows by 1, the total by v.
  * Values: its position, which is the length before; the number of counters changed, 0 for v = 0, else as strip_flip
  * at that position.
  * Refusals: 1, 2, 3, 8, 7.
  *   v above 1                      refused 8, in a full strip too
  *   length = capacity              refused 7
  *   an empty strip                 position 0
- *   a record that does not fit     position and handle are the same; no bit changes but the one appended, which becomes
- *                                  v, and no counter but those over it; the number is any up to 45. The promise leaves
- *                                  open "refused 9" too, with nothing changed; this library does not give it */
-void strip_push(uint64_t capacity, uint64_t length, uint64_t *words, size_t words_len, uint32_t *counters,
-                size_t counters_len, uint64_t v, uint64_t *out, size_t out_len);
+ *   a record that does not fit     position and handle are the same: the total moves by v. No bit changes but the one
+ *                                  appended, which becomes v, and no counter but those over it; the number is any up
+ *                                  to 45. The promise leaves open "refused 9" too, with nothing changed; this library
+ *                                  does not give it */
+void strip_push(uint64_t capacity, uint64_t length, uint64_t total, uint64_t *words, size_t words_len,
+                uint32_t *counters, size_t counters_len, uint64_t v, uint64_t *out, size_t out_len);
 
-/* turn(i). Replaces the bit at position i by its opposite; the length stays.
+/* turn(i). Replaces the bit at position i by its opposite; the length stays, the total goes up by one where the new bit
+ * is 1, else down by one.
  * Values: the new bit; the number of counters changed, each by one, 1 to 45. It is the sum of 15 - c % 8 - c / 8 over
  *   c = i / 512 % 64
  *   c = i / 32768 % 64        for a capacity above 32,768
  *   c = i / 2097152 % 64      for a capacity above 2,097,152
- * Refusals: 1, 2, 3, 4.
+ * Refusals: 1, 2, 3, 4; 9.
  *   i = length or above            refused 4, in an empty strip for every i
- *   a record that does not fit     the new bit is the same; no other bit changes, and no counter but those over it; the
- *                                  number is any up to 45. The promise leaves open "refused 9" too, with nothing
- *                                  changed; this library does not give it */
-void strip_flip(uint64_t capacity, uint64_t length, uint64_t *words, size_t words_len, uint32_t *counters,
-                size_t counters_len, uint64_t i, uint64_t *out, size_t out_len);
+ *   total 0, and the bit is 1      refused 9: the total would go below 0
+ *   total = length, the bit is 0   refused 9: the total would go above the length
+ *   a record that does not fit     but for these two cases, which one that fits never meets, new bit and handle are the
+ *                                  same: the total moves by exactly one. No other bit changes, and no counter but those
+ *                                  over it; the number is any up to 45. The promise leaves open "refused 9" here too,
+ *                                  with nothing changed; this library does not give it */
+void strip_flip(uint64_t capacity, uint64_t length, uint64_t total, uint64_t *words, size_t words_len,
+                uint32_t *counters, size_t counters_len, uint64_t i, uint64_t *out, size_t out_len);
 
-/* run(a, b, v). Sets the positions a to b - 1 to v; the length stays. Makes every bit at and past the length 0, and
- * every counter that of the bits.
- * Value: the ones that the strip then holds.
+/* run(a, b, v). Sets the positions a to b - 1 to v; the length stays. Makes every bit at and past the length 0, every
+ * counter that of the bits, and the total the number of ones.
+ * Value: the ones that the strip then holds, as the total.
  * Refusals: 1, 2, 3, 8, 5, 4.
  *   v above 1                      refused 8
  *   a above b                      refused 5, wherever b is
@@ -150,52 +159,56 @@ void strip_flip(uint64_t capacity, uint64_t length, uint64_t *words, size_t word
  *   b above that                   refused 4, with a = b too
  *   a = b                          sets no position; the rest is done
  *   an empty strip                 accepted with a = b = 0 alone; the value is 0
- *   a record that does not fit     the same, by its bits below the length; it fits afterwards. So words that were
- *                                  written in another way become a record by a = b = 0 */
-void strip_fill(uint64_t capacity, uint64_t length, uint64_t *words, size_t words_len, uint32_t *counters,
-                size_t counters_len, uint64_t a, uint64_t b, uint64_t v, uint64_t *out, size_t out_len);
+ *   a record that does not fit     the same, by its bits below the length, whatever the total was; it fits afterwards.
+ *                                  So words that were written in another way become a record by a = b = 0, under a
+ *                                  total of 0 as well as any other up to the length */
+void strip_fill(uint64_t capacity, uint64_t length, uint64_t total, uint64_t *words, size_t words_len,
+                uint32_t *counters, size_t counters_len, uint64_t a, uint64_t b, uint64_t v, uint64_t *out,
+                size_t out_len);
 
-/* cut(n). Keeps the first n bits; the length becomes n. Makes every bit at and past it 0, and every counter that of
- * the bits.
- * Value: the ones that the strip then holds.
+/* cut(n). Keeps the first n bits; the length becomes n. Makes every bit at and past it 0, every counter that of the
+ * bits, and the total the number of ones.
+ * Value: the ones that the strip then holds, as the total.
  * Refusals: 1, 2, 3, 4.
  *   n = length                     keeps every bit; the rest is done
  *   n above that                   refused 4
  *   n = 0                          leaves the empty strip; the value is 0
- *   a record that does not fit     the same, by its first n bits; it fits afterwards */
-void strip_truncate(uint64_t capacity, uint64_t length, uint64_t *words, size_t words_len, uint32_t *counters,
-                    size_t counters_len, uint64_t n, uint64_t *out, size_t out_len);
+ *   a record that does not fit     the same, by its first n bits, whatever the total was; it fits afterwards */
+void strip_truncate(uint64_t capacity, uint64_t length, uint64_t total, uint64_t *words, size_t words_len,
+                    uint32_t *counters, size_t counters_len, uint64_t n, uint64_t *out, size_t out_len);
 
 /* ---- Readings of a strip. They write nothing. Those that take no counters ignore the bits at and past the length,
- * and answer alike whether the record fits or not. */
+ * and answer alike whether the record fits or not; the total they judge against the length (1), and no further. */
 
 /* look(i).
  * Value: the bit at position i, 0 or 1.
  * Refusals: 1, 2, 4.
  *   i = length or above     refused 4, in an empty strip for every i */
-uint64_t strip_get(uint64_t capacity, uint64_t length, const uint64_t *words, size_t words_len, uint64_t i);
+uint64_t strip_get(uint64_t capacity, uint64_t length, uint64_t total, const uint64_t *words, size_t words_len,
+                   uint64_t i);
 
 /* count(v, i).
  * Value: how many of the first i bits equal v, 0 to i. The bit at position i is not counted.
  * Refusals: 1, 2, 3, 8, 4; 9.
  *   i = 0                          0, also in an empty strip
- *   i = length                     all of v in the strip
+ *   i = length                     all of v in the strip; of v = 1 that is the total
  *   i above that                   refused 4
  *   v above 1                      refused 8
- *   a record that does not fit     any number up to i, or refused 9; on one that fits never 9 */
-uint64_t strip_rank(uint64_t capacity, uint64_t length, const uint64_t *words, size_t words_len,
+ *   a record that does not fit     any number up to i, or refused 9, also where the total alone is wrong; on one that
+ *                                  fits never 9 */
+uint64_t strip_rank(uint64_t capacity, uint64_t length, uint64_t total, const uint64_t *words, size_t words_len,
                     const uint32_t *counters, size_t counters_len, uint64_t v, uint64_t i);
 
 /* find(v, k).
  * Value: the position that holds v and has k of v before it; k starts at 0, so that k = 0 asks for the first v.
- * Refusals: 1, 2, 3, 8, 6; 9.
+ * Refusals: 1, 2, 3, 8, 6; 9. Whether there is such a position, length and total settle: the number of v is the total
+ * for v = 1, length - total for v = 0.
  *   k below the number of v        a position, below the length
  *   k at or past it                refused 6, in an empty strip for every k
  *   v above 1                      refused 8
- *   a record that does not fit     refused 6 where k is at or past the length; else a position below the length, or
- *                                  refused 6, or 9, and 9 may come where the bits alone would say 6. On one that fits
- *                                  never 9 */
-uint64_t strip_select(uint64_t capacity, uint64_t length, const uint64_t *words, size_t words_len,
+ *   a record that does not fit     refused 6 exactly as above, by its length and total; else any position below the
+ *                                  length, or refused 9. On one that fits never 9 */
+uint64_t strip_select(uint64_t capacity, uint64_t length, uint64_t total, const uint64_t *words, size_t words_len,
                       const uint32_t *counters, size_t counters_len, uint64_t v, uint64_t k);
 
 /* next(v, i).
@@ -205,8 +218,8 @@ uint64_t strip_select(uint64_t capacity, uint64_t length, const uint64_t *words,
  *   i above that        refused 4
  *   v above 1           refused 8
  *   no v from i on      refused 6 */
-uint64_t strip_successor(uint64_t capacity, uint64_t length, const uint64_t *words, size_t words_len, uint64_t v,
-                         uint64_t i);
+uint64_t strip_successor(uint64_t capacity, uint64_t length, uint64_t total, const uint64_t *words, size_t words_len,
+                         uint64_t v, uint64_t i);
 
 /* prior(v, i).
  * Value: the largest position below i that holds v.
@@ -216,8 +229,8 @@ uint64_t strip_successor(uint64_t capacity, uint64_t length, const uint64_t *wor
  *   i = 0               refused 6
  *   v above 1           refused 8
  *   no v before i       refused 6 */
-uint64_t strip_predecessor(uint64_t capacity, uint64_t length, const uint64_t *words, size_t words_len, uint64_t v,
-                           uint64_t i);
+uint64_t strip_predecessor(uint64_t capacity, uint64_t length, uint64_t total, const uint64_t *words, size_t words_len,
+                           uint64_t v, uint64_t i);
 
 /* burst(w, m). The window at s is the w strokes at the positions s to s + w - 1. It qualifies where it lies wholly
  * inside the strip, s + w being at most the length, and holds at least m ones.
@@ -229,27 +242,28 @@ uint64_t strip_predecessor(uint64_t capacity, uint64_t length, const uint64_t *w
  *   w = length                0 where the strip holds at least m ones, else refused 6
  *   m = w                     the start of w ones in a row, or refused 6
  *   no window qualifies       refused 6; ones at and past the length complete none */
-uint64_t strip_burst(uint64_t capacity, uint64_t length, const uint64_t *words, size_t words_len, uint64_t w,
-                     uint64_t m);
+uint64_t strip_burst(uint64_t capacity, uint64_t length, uint64_t total, const uint64_t *words, size_t words_len,
+                     uint64_t w, uint64_t m);
 
 /* check.
- * Value: the ones that the strip holds.
+ * Value: the ones that the strip holds, which is the total.
  * Refusals: 1, 2, 3; 9 exactly where the record does not fit.
- *   an empty strip whose words and counters are all 0     0 */
-uint64_t strip_verify(uint64_t capacity, uint64_t length, const uint64_t *words, size_t words_len,
+ *   an empty strip whose words and counters are all 0     0
+ *   a total that is not the number of ones                refused 9; above the length, 1 */
+uint64_t strip_verify(uint64_t capacity, uint64_t length, uint64_t total, const uint64_t *words, size_t words_len,
                       const uint32_t *counters, size_t counters_len);
 
 /* ---- Readings of two strips that hold the same strokes, as two judges saw them: the first as the crank judged them,
  * say, the second as the pressure trace did. A strip MARKS a stroke where its bit is 1. Of each strip the calls take
- * the handle and the words, and no counters: first_capacity, first_length, first and first_len, and for the second
- * likewise. They write nothing, ignore the bits at and past the length in both, and answer alike whether records fit
- * or not. All six have these refusals first, in this order:
+ * the handle and the words, and no counters: first_capacity, first_length, first_total, first and first_len, and for
+ * the second likewise. They write nothing, ignore the bits at and past the length in both, and answer alike whether
+ * records fit or not. All six have these refusals first, in this order:
  *   1, 2   of the first strip, judged on its own handle and its own words
  *   1, 2   of the second strip, on its own
- *   16     first_capacity is not second_capacity, or first_length is not second_length
+ *   16     first_capacity is not second_capacity, or first_length is not second_length; totals are not compared
  * So a first strip that gets 2, beside a second that gets 1, is refused 2; and two strips of unequal length are
- * refused 16 wherever i, k, a and b are. A strip that is ahead may be compared under the other's length, since the bits
- * past it are ignored. Below, "length" is that of both. */
+ * refused 16 wherever i, k, a and b are. A strip that is ahead may be compared under the other's handle, since the bits
+ * past the length are ignored, and a total has only to be no more than the length. Below, "length" is that of both. */
 
 /* pair both(i).
  * Value: how many of the first i strokes both strips mark, 0 to i. The stroke at position i is not counted.
@@ -257,31 +271,32 @@ uint64_t strip_verify(uint64_t capacity, uint64_t length, const uint64_t *words,
  *   i = 0            0, also in empty strips
  *   i = length       all such strokes
  *   i above that     refused 4 */
-uint64_t strip_pair_both(uint64_t first_capacity, uint64_t first_length, const uint64_t *first, size_t first_len,
-                         uint64_t second_capacity, uint64_t second_length, const uint64_t *second, size_t second_len,
-                         uint64_t i);
+uint64_t strip_pair_both(uint64_t first_capacity, uint64_t first_length, uint64_t first_total, const uint64_t *first,
+                         size_t first_len, uint64_t second_capacity, uint64_t second_length, uint64_t second_total,
+                         const uint64_t *second, size_t second_len, uint64_t i);
 
 /* pair either(i).
  * Value: how many of the first i strokes either strip marks, the first, the second or both of them; 0 to i.
  * Refusals and edges: as strip_pair_both. */
-uint64_t strip_pair_either(uint64_t first_capacity, uint64_t first_length, const uint64_t *first, size_t first_len,
-                           uint64_t second_capacity, uint64_t second_length, const uint64_t *second, size_t second_len,
-                           uint64_t i);
+uint64_t strip_pair_either(uint64_t first_capacity, uint64_t first_length, uint64_t first_total, const uint64_t *first,
+                           size_t first_len, uint64_t second_capacity, uint64_t second_length, uint64_t second_total,
+                           const uint64_t *second, size_t second_len, uint64_t i);
 
 /* pair only first(i).
  * Value: how many of the first i strokes only the first strip marks, and the second does not; 0 to i. With the strips
  * exchanged, those that only the second marks.
  * Refusals and edges: as strip_pair_both. */
-uint64_t strip_pair_only_first(uint64_t first_capacity, uint64_t first_length, const uint64_t *first,
-                               size_t first_len, uint64_t second_capacity, uint64_t second_length,
-                               const uint64_t *second, size_t second_len, uint64_t i);
+uint64_t strip_pair_only_first(uint64_t first_capacity, uint64_t first_length, uint64_t first_total,
+                               const uint64_t *first, size_t first_len, uint64_t second_capacity,
+                               uint64_t second_length, uint64_t second_total, const uint64_t *second, size_t second_len,
+                               uint64_t i);
 
 /* pair differ(i).
  * Value: how many of the first i strokes the strips judge differently, one marking it and the other not; 0 to i.
  * Refusals and edges: as strip_pair_both. */
-uint64_t strip_pair_differ(uint64_t first_capacity, uint64_t first_length, const uint64_t *first, size_t first_len,
-                           uint64_t second_capacity, uint64_t second_length, const uint64_t *second, size_t second_len,
-                           uint64_t i);
+uint64_t strip_pair_differ(uint64_t first_capacity, uint64_t first_length, uint64_t first_total, const uint64_t *first,
+                           size_t first_len, uint64_t second_capacity, uint64_t second_length, uint64_t second_total,
+                           const uint64_t *second, size_t second_len, uint64_t i);
 
 /* pair find(k).
  * Value: the position of the k-th stroke that the strips judge differently; k starts at 0, so that k = 0 asks for the
@@ -289,9 +304,9 @@ uint64_t strip_pair_differ(uint64_t first_capacity, uint64_t first_length, const
  * Refusals: 1, 2, 1, 2, 16, 6.
  *   k below the number of such strokes     a position, below the length
  *   k at or past it                        refused 6; in strips whose bits are equal, or empty, for every k */
-uint64_t strip_pair_find(uint64_t first_capacity, uint64_t first_length, const uint64_t *first, size_t first_len,
-                         uint64_t second_capacity, uint64_t second_length, const uint64_t *second, size_t second_len,
-                         uint64_t k);
+uint64_t strip_pair_find(uint64_t first_capacity, uint64_t first_length, uint64_t first_total, const uint64_t *first,
+                         size_t first_len, uint64_t second_capacity, uint64_t second_length, uint64_t second_total,
+                         const uint64_t *second, size_t second_len, uint64_t k);
 
 /* pair span(a, b).
  * Value: the ones of the first strip at the positions a to b - 1 less those of the second, from -(b - a) to b - a;
@@ -303,9 +318,9 @@ uint64_t strip_pair_find(uint64_t first_capacity, uint64_t first_length, const u
  *   b = length       accepted
  *   b above that     refused 4, with a = b too
  *   a = b            0, for every a up to the length; so in empty strips for a = b = 0 alone */
-int64_t strip_pair_span(uint64_t first_capacity, uint64_t first_length, const uint64_t *first, size_t first_len,
-                        uint64_t second_capacity, uint64_t second_length, const uint64_t *second, size_t second_len,
-                        uint64_t a, uint64_t b);
+int64_t strip_pair_span(uint64_t first_capacity, uint64_t first_length, uint64_t first_total, const uint64_t *first,
+                        size_t first_len, uint64_t second_capacity, uint64_t second_length, uint64_t second_total,
+                        const uint64_t *second, size_t second_len, uint64_t a, uint64_t b);
 
 /* ---- Readings of a strip of which some strokes still WAIT: the pressure trace lags, and has not judged them yet. A
  * second strip of the same capacity and length, the waiting strip, marks them: its bit is 1 where the stroke waits, 0
@@ -317,18 +332,19 @@ int64_t strip_pair_span(uint64_t first_capacity, uint64_t first_length, const ui
  *   the outcome with the least misfires   01001101010100110     8 of them
  *   the outcome with the most             01111101010101111     12
  * The calls answer for all outcomes together. Of each strip they take the handle and the words, and no counters:
- * capacity, length, words and words_len of the strip; waiting_capacity, waiting_length, waiting and waiting_len of the
- * waiting strip. They change no word, ignore the bits and marks at and past the length, and answer alike whether
- * records fit or not. The count writes three numbers to `out`, the find four, and neither any past these:
+ * capacity, length, total, words and words_len of the strip; waiting_capacity, waiting_length, waiting_total, waiting
+ * and waiting_len of the waiting strip. They change no word, ignore the bits and marks at and past the length, and
+ * answer alike whether records fit or not. The count writes three numbers to `out`, the find four, and neither any past
+ * these:
  *   out[0]        the number of the refusal, or 0
  *   the others    the values, all 0 where refused
  * With out_len below that, NULL and 0 among these, a call does nothing at all: not even `out` changes. Both have these
  * refusals first, in this order:
  *   1, 2   of the strip, judged on its own handle and its own words
  *   1, 2   of the waiting strip, on its own
- *   16     capacity is not waiting_capacity, or length is not waiting_length
- * One of the two that is a stroke ahead may be read under the other's length, since what is past it is ignored. Below,
- * "length" is that of both. */
+ *   16     capacity is not waiting_capacity, or length is not waiting_length; totals are not compared
+ * One of the two that is a stroke ahead may be read under the other's handle, since what is past the length is ignored,
+ * and a total has only to be no more than the length. Below, "length" is that of both. */
 
 /* waiting count(i). How many of the first i strokes are misfires; the stroke at position i is not counted.
  * Values, 0 to i:
@@ -340,9 +356,9 @@ int64_t strip_pair_span(uint64_t first_capacity, uint64_t first_length, const ui
  *   i above that                   refused 4
  *   none of the first i waits      the same number twice: their ones
  *   each of the first i waits      0 and i, whatever the strip's bits are */
-void strip_waiting_count(uint64_t capacity, uint64_t length, const uint64_t *words, size_t words_len,
-                         uint64_t waiting_capacity, uint64_t waiting_length, const uint64_t *waiting,
-                         size_t waiting_len, uint64_t i, uint64_t *out, size_t out_len);
+void strip_waiting_count(uint64_t capacity, uint64_t length, uint64_t total, const uint64_t *words, size_t words_len,
+                         uint64_t waiting_capacity, uint64_t waiting_length, uint64_t waiting_total,
+                         const uint64_t *waiting, size_t waiting_len, uint64_t i, uint64_t *out, size_t out_len);
 
 /* waiting find(k). Where the k-th misfire may lie; k starts at 0, so that k = 0 asks for the first one.
  * Values:
@@ -358,9 +374,9 @@ void strip_waiting_count(uint64_t capacity, uint64_t length, const uint64_t *wor
  *                                        in empty strips for every k
  *   no stroke waits                      the same position twice, that of the k-th one; or refused 6
  *   every stroke waits                   k is the earliest, for every k below the length, and out[2] is 0 */
-void strip_waiting_find(uint64_t capacity, uint64_t length, const uint64_t *words, size_t words_len,
-                        uint64_t waiting_capacity, uint64_t waiting_length, const uint64_t *waiting,
-                        size_t waiting_len, uint64_t k, uint64_t *out, size_t out_len);
+void strip_waiting_find(uint64_t capacity, uint64_t length, uint64_t total, const uint64_t *words, size_t words_len,
+                        uint64_t waiting_capacity, uint64_t waiting_length, uint64_t waiting_total,
+                        const uint64_t *waiting, size_t waiting_len, uint64_t k, uint64_t *out, size_t out_len);
 
 /* ---- Writing an image. */
 
@@ -375,7 +391,7 @@ uint64_t image_clear(uint8_t *image, size_t image_len);
  * record of IMAGE_RECORD_BYTES(length) bytes, right after the last record of the chain, or at byte 16 where there is
  * none, and four bytes of the record before it, or of the header, that lead there; no other byte. The rows that were
  * there keep their bits, and stay right or wrong as they were; the new row is right. Takes words alone: bits at and
- * past the length are ignored, and the record need not fit.
+ * past the length are ignored, the row's number of ones is counted, and the record need not fit.
  * Value: where the row's record starts, in units of 16 bytes; 1 for the first row of an image just cleared.
  * Refusals: 1, 2, 10, 11, 12, 13.
  *   NULL, 0 or any image with no sound chain         refused 10; an image is cleared first
@@ -384,8 +400,8 @@ uint64_t image_clear(uint8_t *image, size_t image_len);
  *   a label that a row has, with room or without     refused 12
  *   a record that would end past the last byte       refused 13; accepted where it ends with the image
  *   an empty strip                                   accepted, as a row of length 0 with a record of 16 bytes */
-uint64_t image_freeze(uint64_t capacity, uint64_t length, const uint64_t *words, size_t words_len, uint8_t *image,
-                      size_t image_len, uint64_t label);
+uint64_t image_freeze(uint64_t capacity, uint64_t length, uint64_t total, const uint64_t *words, size_t words_len,
+                      uint8_t *image, size_t image_len, uint64_t label);
 
 /* merge. Makes one image of two that come from one engine, as of a unit and of the one that replaced it, in a third
  * buffer, whatever this held: the rows of the first image in chain order, then, in chain order too, those of the second

@@ -1,6 +1,6 @@
 //! Full strips that hold no burst: the library's search for one, and those of burst.cpp and scan.rs.
 use crate::ffi::*;
-use crate::figures::word;
+use crate::figures::{total, word};
 use crate::random::Random;
 use crate::scan;
 
@@ -51,6 +51,7 @@ pub struct Burst {
     pub case: Case,
     /// The strip, and a word more.
     words: Vec<u64>,
+    total: u64,
 }
 
 // SAFETY, here and below: the pointers are to as many words as are named with them, or as hold the length.
@@ -62,14 +63,17 @@ impl Burst {
             Words::Thinned if random.below(2) == 0 => THIN,
             _ => ALTERNATING,
         };
-        let words = (0..bits / 64).map(|_| next()).chain([0]).collect();
-        Burst { bits, case, words }
+        Burst::over(bits, case, (0..bits / 64).map(|_| next()).chain([0]).collect())
+    }
+
+    fn over(bits: usize, case: Case, words: Vec<u64>) -> Burst {
+        Burst { bits, case, total: total(&words, bits), words }
     }
 
     /// The start of a window with at least m ones, or the number of bits.
     pub fn library(&self, m: usize) -> usize {
-        let (n, count) = (self.bits as u64, self.bits / 64);
-        let answer = unsafe { strip_burst(n, n, self.words.as_ptr(), count, self.case.w as u64, m as u64) };
+        let (n, total, words, count) = (self.bits as u64, self.total, self.words.as_ptr(), self.bits / 64);
+        let answer = unsafe { strip_burst(n, n, total, words, count, self.case.w as u64, m as u64) };
         if answer == NOT_FOUND {
             self.bits
         } else {
@@ -96,7 +100,7 @@ impl Burst {
         let beside = [start.wrapping_sub(1), end].into_iter().filter(|p| *p < self.bits);
         (start..end).for_each(|p| words[p / 64] |= 1 << (p % 64));
         beside.for_each(|p| words[p / 64] &= !(1 << (p % 64)));
-        Burst { words, ..*self }
+        Burst::over(self.bits, self.case, words)
     }
 
     /// Asserts that all agree: there is no window; and where there is one, since fewer ones are sought or more are there,

@@ -8,7 +8,8 @@
 //!   place  power  density  freeze  column  least, median, greatest time over places of the stack, in ns
 //!   short  length  density  freeze  column  as time, of strips of a few superblocks, in as few words as hold them
 //!   short  length  density  freeze  columns  as ratio
-//! `freeze ROUNDS POWER ..` takes other rounds and sizes.
+//! `freeze ROUNDS POWER ..` takes other rounds and sizes. With `--cfg total_before` the handle of the library before the
+//! change has a total too.
 #[allow(dead_code)]
 #[path = "../src/ffi.rs"]
 mod ffi;
@@ -19,7 +20,7 @@ mod random;
 mod figures;
 
 use ffi::{image_clear, image_freeze};
-use figures::{quartiles, word};
+use figures::{quartiles, total, word};
 use random::Random;
 use std::hint::black_box;
 use std::time::Instant;
@@ -29,6 +30,7 @@ extern "C" {
     fn before_image_freeze(
         capacity: u64,
         length: u64,
+        #[cfg(total_before)] total: u64,
         words: *const u64,
         words_len: usize,
         image: *mut u8,
@@ -103,7 +105,7 @@ impl Memory {
         let (mut random, bits) = (Random::new(1), 1 << power);
         let (words, image) = (&mut self.words[..bits / 64], &mut self.image[..image_size(bits)]);
         words.fill_with(|| word(&mut random, share));
-        Bench { length: bits, words, image }
+        Bench { length: bits, total: total(words, bits), words, image }
     }
 
     /// A strip of so many bits, half ones, in as few words as hold it, and room for its image.
@@ -112,12 +114,13 @@ impl Memory {
         let size = 32 + 528 * length.div_ceil(4096);
         let (words, image) = (&mut self.words[..8 * length.div_ceil(512)], &mut self.image[..size]);
         words.fill_with(|| word(&mut random, 32));
-        Bench { length, words, image }
+        Bench { length, total: total(words, length), words, image }
     }
 }
 
 struct Bench<'a> {
     length: usize,
+    total: u64,
     words: &'a [u64],
     image: &'a mut [u8],
 }
@@ -127,18 +130,21 @@ impl Bench<'_> {
     // SAFETY: the pointers are to as many numbers as are named with them, the row fills the image, it has whole
     // superblocks but for the two libraries, and popcnt is called where the machine has it.
     fn call(&mut self, column: Column) -> usize {
-        let (words, count, n) = (self.words.as_ptr(), self.words.len(), self.length as u64);
+        let (words, count, n, total) = (self.words.as_ptr(), self.words.len(), self.length as u64, self.total);
         let capacity = 64 * count as u64;
         let (image, size, label) = (self.image.as_mut_ptr(), self.image.len(), LABEL as u32);
         unsafe {
             match column {
                 Column::Before => {
                     before_image_clear(image, size);
+                    #[cfg(total_before)]
+                    return before_image_freeze(capacity, n, total, words, count, image, size, LABEL) as usize;
+                    #[cfg(not(total_before))]
                     return before_image_freeze(capacity, n, words, count, image, size, LABEL) as usize;
                 }
                 Column::Library => {
                     image_clear(image, size);
-                    return image_freeze(capacity, n, words, count, image, size, LABEL) as usize;
+                    return image_freeze(capacity, n, total, words, count, image, size, LABEL) as usize;
                 }
                 Column::Count => return hand_count(words, count),
                 Column::Memcpy => image.add(size - 8 * count).copy_from_nonoverlapping(words.cast(), 8 * count),
@@ -153,7 +159,6 @@ impl Bench<'_> {
 
     /// Compares, before anything is timed, what the columns write, each over other bytes left in the image.
     fn compare(&mut self, columns: &[(Column, &str)]) {
-        let ones: usize = self.words.iter().map(|x| x.count_ones() as usize).sum();
         let (bits, mut first) = (self.image.len() - 8 * self.words.len(), Vec::new());
         for (place, (column, name)) in columns.iter().enumerate() {
             self.image.fill(0xa5 ^ place as u8);
@@ -161,7 +166,7 @@ impl Bench<'_> {
             match column {
                 Column::Before => first = self.image.to_vec(),
                 Column::Memcpy | Column::Copy => assert!(self.image[bits..] == first[bits..], "{name}: other bits"),
-                Column::Count => assert_eq!(answer, ones, "{name}"),
+                Column::Count => assert_eq!(answer as u64, self.total, "{name}"),
                 _ => assert!(*self.image == first, "{name}: another image"),
             }
             assert!(answer == 1 || !matches!(column, Column::Before | Column::Library), "{name}: another place");

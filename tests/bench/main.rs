@@ -20,6 +20,7 @@ mod ffi;
 #[path = "../src/random.rs"]
 mod random;
 
+mod buffer;
 mod burst;
 mod figures;
 mod merge;

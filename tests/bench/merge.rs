@@ -1,6 +1,6 @@
 //! Two images: the library's merge of them, and what it is held against, inspections of both and a copy of the result.
 use crate::ffi::{image_clear, image_freeze, image_inspect, image_merge, image_record_size};
-use crate::figures::word;
+use crate::figures::{total, word};
 use crate::random::Random;
 use std::hint::black_box;
 use std::ops::RangeInclusive;
@@ -42,8 +42,8 @@ fn image(bits: usize, labels: RangeInclusive<usize>) -> Vec<u8> {
     for label in labels {
         let mut random = Random::new(label as u64);
         let words: Vec<u64> = (0..capacity / 64).map(|_| word(&mut random, 32)).collect();
-        let (n, count, to) = (bits as u64, words.len(), image.as_mut_ptr());
-        unsafe { image_freeze(capacity as u64, n, words.as_ptr(), count, to, size, label as u64) };
+        let (n, t, count, to) = (bits as u64, total(&words, bits), words.len(), image.as_mut_ptr());
+        unsafe { image_freeze(capacity as u64, n, t, words.as_ptr(), count, to, size, label as u64) };
     }
     image
 }

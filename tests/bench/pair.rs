@@ -1,5 +1,6 @@
 //! Two full strips: the library's calls over both, and those of pair.cpp.
 use crate::ffi::*;
+use crate::figures::total;
 
 extern "C" {
     fn pair_both(first: *const u64, second: *const u64, i: usize) -> usize;
@@ -24,6 +25,8 @@ pub struct Pair {
     pub bits: u64,
     first: Vec<u64>,
     second: Vec<u64>,
+    /// The totals of the two.
+    pub totals: [u64; 2],
     /// The strokes judged differently.
     pub differing: usize,
 }
@@ -33,7 +36,9 @@ impl Pair {
     pub fn new(first: Vec<u64>, second: Vec<u64>) -> Pair {
         assert_eq!(first.len(), second.len());
         let differing = first.iter().zip(&second).map(|(x, y)| (x ^ y).count_ones() as usize).sum();
-        Pair { bits: 64 * first.len() as u64, first, second, differing }
+        let bits = 64 * first.len();
+        let totals = [total(&first, bits), total(&second, bits)];
+        Pair { bits: bits as u64, first, second, totals, differing }
     }
 
     /// The strip that a rule makes of the two, and a word more.
@@ -57,24 +62,24 @@ impl Pair {
     }
 
     pub fn count(&self, rule: Rule, i: usize) -> usize {
-        let ((x, y, count), n) = (self.parts(), self.bits);
+        let ((x, y, count), n, [s, t]) = (self.parts(), self.bits, self.totals);
         let call = match rule {
             Both => strip_pair_both,
             Either => strip_pair_either,
             OnlyFirst => strip_pair_only_first,
             Differ => strip_pair_differ,
         };
-        unsafe { call(n, n, x, count, n, n, y, count, i as u64) as usize }
+        unsafe { call(n, n, s, x, count, n, n, t, y, count, i as u64) as usize }
     }
 
     pub fn find(&self, k: usize) -> usize {
-        let ((x, y, count), n) = (self.parts(), self.bits);
-        unsafe { strip_pair_find(n, n, x, count, n, n, y, count, k as u64) as usize }
+        let ((x, y, count), n, [s, t]) = (self.parts(), self.bits, self.totals);
+        unsafe { strip_pair_find(n, n, s, x, count, n, n, t, y, count, k as u64) as usize }
     }
 
     pub fn span(&self, a: usize, b: usize) -> i64 {
-        let ((x, y, count), n) = (self.parts(), self.bits);
-        unsafe { strip_pair_span(n, n, x, count, n, n, y, count, a as u64, b as u64) }
+        let ((x, y, count), n, [s, t]) = (self.parts(), self.bits, self.totals);
+        unsafe { strip_pair_span(n, n, s, x, count, n, n, t, y, count, a as u64, b as u64) }
     }
 
     pub fn hand_count(&self, rule: Rule, i: usize) -> usize {

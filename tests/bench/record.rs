@@ -1,6 +1,6 @@
 //! A full strip and its counters: the library's calls on it, and those of tree.cpp.
+use crate::buffer::Buffer;
 use crate::ffi::*;
-use std::alloc::{alloc, dealloc, Layout};
 
 extern "C" {
     fn tree_rank(c: usize, words: *const u64, counters: *const u32, i: usize) -> usize;
@@ -10,56 +10,60 @@ extern "C" {
     fn tree_push(c: usize, words: *mut u64, counters: *mut u32, p: usize, v: u64) -> usize;
     fn tree_fill(c: usize, n: usize, words: *mut u64, counters: *mut u32, a: usize, b: usize, v: u64) -> usize;
     fn tree_verify(c: usize, n: usize, words: *const u64, counters: *const u32) -> bool;
-    fn checked_rank(c: usize, n: usize, w: *const u64, nw: usize, x: *const u32, nx: usize, v: u64, i: usize) -> u64;
-    fn checked_select(c: usize, n: usize, w: *const u64, nw: usize, x: *const u32, nx: usize, v: u64, k: usize) -> u64;
-    fn checked_flip(c: usize, n: usize, w: *mut u64, nw: usize, x: *mut u32, nx: usize, i: usize, out: *mut u64, out_len: usize);
-    fn checked_push(c: usize, n: usize, w: *mut u64, nw: usize, x: *mut u32, nx: usize, v: u64, out: *mut u64, out_len: usize);
-    fn madvise(at: *mut u8, size: usize, advice: i32) -> i32;
-}
-
-/// Numbers that start a page of 2 MiB, in such pages where they are asked for and can be had.
-pub struct Buffer<T> {
-    at: *mut T,
-    count: usize,
-    layout: Layout,
-}
-
-impl<T: Copy> Buffer<T> {
-    pub fn new(count: usize, zero: T, huge: bool) -> Buffer<T> {
-        let page = 1 << 21;
-        let layout = Layout::from_size_align((count * size_of::<T>()).next_multiple_of(page), page).unwrap();
-        // SAFETY: the layout is not empty; the numbers are written before they are read.
-        unsafe {
-            let at: *mut T = alloc(layout).cast();
-            assert!(!at.is_null());
-            if huge {
-                madvise(at.cast(), layout.size(), 14);
-            }
-            (0..count).for_each(|j| at.add(j).write(zero));
-            Buffer { at, count, layout }
-        }
-    }
-
-    pub fn get(&self) -> &[T] {
-        unsafe { std::slice::from_raw_parts(self.at, self.count) }
-    }
-
-    pub fn get_mut(&mut self) -> &mut [T] {
-        unsafe { std::slice::from_raw_parts_mut(self.at, self.count) }
-    }
-}
-
-impl<T> Drop for Buffer<T> {
-    fn drop(&mut self) {
-        unsafe { dealloc(self.at.cast(), self.layout) }
-    }
+    fn checked_rank(
+        c: usize,
+        n: usize,
+        t: usize,
+        w: *const u64,
+        nw: usize,
+        x: *const u32,
+        nx: usize,
+        v: u64,
+        i: usize,
+    ) -> u64;
+    fn checked_select(
+        c: usize,
+        n: usize,
+        t: usize,
+        w: *const u64,
+        nw: usize,
+        x: *const u32,
+        nx: usize,
+        v: u64,
+        k: usize,
+    ) -> u64;
+    fn checked_flip(
+        c: usize,
+        n: usize,
+        t: usize,
+        w: *mut u64,
+        nw: usize,
+        x: *mut u32,
+        nx: usize,
+        i: usize,
+        out: *mut u64,
+        out_len: usize,
+    );
+    fn checked_push(
+        c: usize,
+        n: usize,
+        t: usize,
+        w: *mut u64,
+        nw: usize,
+        x: *mut u32,
+        nx: usize,
+        v: u64,
+        out: *mut u64,
+        out_len: usize,
+    );
 }
 
 pub struct Record {
     pub bits: usize,
     words: Buffer<u64>,
     counters: Buffer<u32>,
-    out: [u64; 5],
+    /// What the last change wrote; its last number is the total of the handle to go on with.
+    out: [u64; 6],
 }
 
 // SAFETY, here and below: the pointers are to as many numbers as are named with them, or as the capacity has.
@@ -70,7 +74,7 @@ impl Record {
         let height = (1..=3).find(|h| blocks <= 64usize.pow(*h)).unwrap();
         let nodes: usize = (1..=height).map(|t| blocks.div_ceil(64usize.pow(t))).sum();
         let counters = Buffer::new(72 * nodes, 0, huge);
-        let mut record = Record { bits, words: Buffer::new(words.len(), 0, huge), counters, out: [0; 5] };
+        let mut record = Record { bits, words: Buffer::new(words.len(), 0, huge), counters, out: [0; 6] };
         record.restore(words);
         record
     }
@@ -84,6 +88,11 @@ impl Record {
 
     pub fn words(&self) -> &[u64] {
         self.words.get()
+    }
+
+    /// The total of the handle, which the functions of tree.cpp that check nothing do not move.
+    fn total(&self) -> u64 {
+        self.out[5]
     }
 
     /// Words, counters and `out`, to be lent.
@@ -100,51 +109,52 @@ impl Record {
     pub fn rank(&self, v: u64, i: usize) -> usize {
         let (words, nw, counters, nc) = self.parts();
         let n = self.bits as u64;
-        unsafe { strip_rank(n, n, words, nw, counters, nc, v, i as u64) as usize }
+        unsafe { strip_rank(n, n, self.total(), words, nw, counters, nc, v, i as u64) as usize }
     }
 
     pub fn select(&self, v: u64, k: usize) -> usize {
         let (words, nw, counters, nc) = self.parts();
         let n = self.bits as u64;
-        unsafe { strip_select(n, n, words, nw, counters, nc, v, k as u64) as usize }
+        unsafe { strip_select(n, n, self.total(), words, nw, counters, nc, v, k as u64) as usize }
     }
 
     pub fn successor(&self, v: u64, i: usize) -> usize {
         let (words, nw, _, _) = self.parts();
         let n = self.bits as u64;
-        unsafe { strip_successor(n, n, words, nw, v, i as u64) as usize }
+        unsafe { strip_successor(n, n, self.total(), words, nw, v, i as u64) as usize }
     }
 
     pub fn verify(&self) -> usize {
         let (words, nw, counters, nc) = self.parts();
         let n = self.bits as u64;
-        unsafe { strip_verify(n, n, words, nw, counters, nc) as usize }
+        unsafe { strip_verify(n, n, self.total(), words, nw, counters, nc) as usize }
     }
 
     pub fn push(&mut self, length: usize, v: u64) -> usize {
+        let (capacity, n, total) = (self.bits as u64, length as u64, self.total());
         let (words, nw, counters, nc, out) = self.lend();
-        unsafe { strip_push(self.bits as u64, length as u64, words, nw, counters, nc, v, out, 5) }
+        unsafe { strip_push(capacity, n, total, words, nw, counters, nc, v, out, 6) }
         self.out[2] as usize
     }
 
     pub fn flip(&mut self, i: usize) -> usize {
-        let n = self.bits as u64;
+        let (n, total) = (self.bits as u64, self.total());
         let (words, nw, counters, nc, out) = self.lend();
-        unsafe { strip_flip(n, n, words, nw, counters, nc, i as u64, out, 5) }
+        unsafe { strip_flip(n, n, total, words, nw, counters, nc, i as u64, out, 6) }
         self.out[2] as usize
     }
 
     pub fn fill(&mut self, a: usize, b: usize, v: u64) -> usize {
-        let n = self.bits as u64;
+        let (n, total) = (self.bits as u64, self.total());
         let (words, nw, counters, nc, out) = self.lend();
-        unsafe { strip_fill(n, n, words, nw, counters, nc, a as u64, b as u64, v, out, 5) }
+        unsafe { strip_fill(n, n, total, words, nw, counters, nc, a as u64, b as u64, v, out, 6) }
         self.out[1] as usize
     }
 
     pub fn truncate(&mut self, n: usize) {
-        let bits = self.bits as u64;
+        let (bits, total) = (self.bits as u64, self.total());
         let (words, nw, counters, nc, out) = self.lend();
-        unsafe { strip_truncate(bits, bits, words, nw, counters, nc, n as u64, out, 5) }
+        unsafe { strip_truncate(bits, bits, total, words, nw, counters, nc, n as u64, out, 6) }
     }
 
     pub fn tree_rank(&self, i: usize) -> usize {
@@ -183,23 +193,25 @@ impl Record {
 
     pub fn checked_rank(&self, v: u64, i: usize) -> usize {
         let (words, nw, counters, nc) = self.parts();
-        unsafe { checked_rank(self.bits, self.bits, words, nw, counters, nc, v, i) as usize }
+        unsafe { checked_rank(self.bits, self.bits, self.total() as usize, words, nw, counters, nc, v, i) as usize }
     }
 
     pub fn checked_select(&self, v: u64, k: usize) -> usize {
         let (words, nw, counters, nc) = self.parts();
-        unsafe { checked_select(self.bits, self.bits, words, nw, counters, nc, v, k) as usize }
+        unsafe { checked_select(self.bits, self.bits, self.total() as usize, words, nw, counters, nc, v, k) as usize }
     }
 
     pub fn checked_push(&mut self, length: usize, v: u64) -> usize {
+        let (bits, total) = (self.bits, self.total() as usize);
         let (words, nw, counters, nc, out) = self.lend();
-        unsafe { checked_push(self.bits, length, words, nw, counters, nc, v, out, 5) }
+        unsafe { checked_push(bits, length, total, words, nw, counters, nc, v, out, 6) }
         self.out[2] as usize
     }
 
     pub fn checked_flip(&mut self, i: usize) -> usize {
+        let (bits, total) = (self.bits, self.total() as usize);
         let (words, nw, counters, nc, out) = self.lend();
-        unsafe { checked_flip(self.bits, self.bits, words, nw, counters, nc, i, out, 5) }
+        unsafe { checked_flip(bits, bits, total, words, nw, counters, nc, i, out, 6) }
         self.out[2] as usize
     }
 }

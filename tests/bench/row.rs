@@ -1,5 +1,6 @@
 //! An image of one row: the library's calls on it, and those of row.cpp.
 use crate::ffi::{image_clear, image_freeze, image_inspect, image_row_rank, image_row_select};
+use crate::figures::total;
 
 extern "C" {
     fn row_freeze(words: *const u64, count: usize, image: *mut u8, label: u32);
@@ -13,13 +14,15 @@ const LABEL: u64 = 7;
 pub struct Row {
     pub bits: usize,
     pub image: Vec<u8>,
+    /// The total of the strip that is frozen.
+    total: u64,
 }
 
 // SAFETY, here and below: the pointers are to as many numbers as are named with them.
 impl Row {
     pub fn new(words: &[u64]) -> Row {
         let bits = 64 * words.len();
-        let mut row = Row { bits, image: vec![0; 32 + bits / 256 + bits / 8] };
+        let mut row = Row { bits, image: vec![0; 32 + bits / 256 + bits / 8], total: total(words, bits) };
         row.tree_freeze(words);
         let by_hand = row.image.clone();
         row.image.fill(0);
@@ -41,7 +44,7 @@ impl Row {
         let (image, size, n) = (self.image.as_mut_ptr(), self.image.len(), self.bits as u64);
         unsafe {
             image_clear(image, size);
-            image_freeze(n, n, words.as_ptr(), words.len(), image, size, LABEL) as usize
+            image_freeze(n, n, self.total, words.as_ptr(), words.len(), image, size, LABEL) as usize
         }
     }
 

@@ -98,27 +98,31 @@ size_t ones_to(size_t capacity, const uint64_t *words, const uint32_t *counters,
 }
 
 // The first refusal of handle and buffers, or 0.
-uint64_t refusal(size_t capacity, size_t length, size_t words, size_t counters)
+uint64_t refusal(size_t capacity, size_t length, size_t total, size_t words, size_t counters)
 {
-    if (capacity % 512 != 0 || capacity < 512 || capacity > 134217728 || length > capacity) return 1;
+    if (capacity % 512 != 0 || capacity < 512 || capacity > 134217728 || length > capacity || total > length) return 1;
     if (words != capacity / 64) return 2;
-    size_t total = 0, count = capacity / 512;
-    do total += count = (count + 63) / 64;
+    size_t nodes = 0, count = capacity / 512;
+    do nodes += count = (count + 63) / 64;
     while (count > 1);
-    return counters != 72 * total ? 3 : 0;
+    return counters != 72 * nodes ? 3 : 0;
 }
+
+// The bit at position p.
+uint64_t bit(const uint64_t *words, size_t p) { return words[p / 64] >> p % 64 & 1; }
 
 // A refusal as an answer.
 uint64_t refused(uint64_t number) { return (uint64_t(1) << 32) + number; }
 
 // What a change answers.
-void answer(uint64_t *out, uint64_t number, uint64_t x, uint64_t y, size_t capacity, size_t length)
+void answer(uint64_t *out, uint64_t number, uint64_t x, uint64_t y, size_t capacity, size_t length, size_t total)
 {
     out[0] = number;
     out[1] = x;
     out[2] = y;
     out[3] = capacity;
     out[4] = length;
+    out[5] = total;
 }
 
 } // namespace
@@ -176,7 +180,7 @@ size_t tree_select_in_word(uint64_t x, size_t k) { return word::select(x, k); }
 size_t tree_flip(size_t capacity, uint64_t *words, uint32_t *counters, size_t p)
 {
     words[p / 64] ^= uint64_t(1) << p % 64;
-    return move(Shape(capacity), counters, p, (words[p / 64] >> p % 64 & 1) ? 1 : -1);
+    return move(Shape(capacity), counters, p, bit(words, p) ? 1 : -1);
 }
 
 // add(v) at position p: the number of counters changed
@@ -208,7 +212,7 @@ bool tree_verify(size_t capacity, size_t length, const uint64_t *words, const ui
                 if (words[j] != 0) return false;
             break;
         }
-        if (words[p / 64] >> p % 64 & 1) return false;
+        if (bit(words, p)) return false;
     }
     return each_node(capacity, words, counters, [=](size_t at, const uint32_t *node) {
         return std::memcmp(counters + at, node, 72 * sizeof *node) == 0;
@@ -216,10 +220,10 @@ bool tree_verify(size_t capacity, size_t length, const uint64_t *words, const ui
 }
 
 [[gnu::flatten]]
-uint64_t checked_rank(size_t capacity, size_t length, const uint64_t *words, size_t nw, const uint32_t *counters, size_t nc,
-                      uint64_t v, size_t i)
+uint64_t checked_rank(size_t capacity, size_t length, size_t total, const uint64_t *words, size_t nw,
+                      const uint32_t *counters, size_t nc, uint64_t v, size_t i)
 {
-    uint64_t number = refusal(capacity, length, nw, nc);
+    uint64_t number = refusal(capacity, length, total, nw, nc);
     if (number == 0) number = v > 1 ? 8 : i > length ? 4 : 0;
     if (number != 0) return refused(number);
     if (i == 0) return 0;
@@ -229,39 +233,36 @@ uint64_t checked_rank(size_t capacity, size_t length, const uint64_t *words, siz
 }
 
 [[gnu::flatten]]
-uint64_t checked_select(size_t capacity, size_t length, const uint64_t *words, size_t nw, const uint32_t *counters,
-                        size_t nc, uint64_t v, size_t k)
+uint64_t checked_select(size_t capacity, size_t length, size_t total, const uint64_t *words, size_t nw,
+                        const uint32_t *counters, size_t nc, uint64_t v, size_t k)
 {
-    uint64_t number = refusal(capacity, length, nw, nc);
-    if (number == 0) number = v > 1 ? 8 : k >= length ? 6 : 0;
+    uint64_t number = refusal(capacity, length, total, nw, nc);
+    if (number == 0) number = v > 1 ? 8 : k >= (v == 1 ? total : length - total) ? 6 : 0;
     if (number != 0) return refused(number);
-    size_t ones = size_t(counters[7]) + counters[71];
-    if (ones > length) return refused(9);
-    if (k >= (v == 1 ? ones : length - ones)) return refused(6);
     return tree_select(capacity, words, counters, v, k);
 }
 
 [[gnu::flatten]]
-void checked_flip(size_t capacity, size_t length, uint64_t *words, size_t nw, uint32_t *counters, size_t nc, size_t i,
-                  uint64_t *out, size_t out_len)
+void checked_flip(size_t capacity, size_t length, size_t total, uint64_t *words, size_t nw, uint32_t *counters,
+                  size_t nc, size_t i, uint64_t *out, size_t out_len)
 {
-    if (out_len < 5) return;
-    uint64_t number = refusal(capacity, length, nw, nc);
-    if (number == 0 && i >= length) number = 4;
-    if (number != 0) return answer(out, number, 0, 0, capacity, length);
+    if (out_len < 6) return;
+    uint64_t number = refusal(capacity, length, total, nw, nc);
+    if (number == 0) number = i >= length ? 4 : total == (bit(words, i) ? 0 : length) ? 9 : 0;
+    if (number != 0) return answer(out, number, 0, 0, capacity, length, total);
     size_t changed = tree_flip(capacity, words, counters, i);
-    answer(out, 0, words[i / 64] >> i % 64 & 1, changed, capacity, length);
+    answer(out, 0, bit(words, i), changed, capacity, length, bit(words, i) ? total + 1 : total - 1);
 }
 
 [[gnu::flatten]]
-void checked_push(size_t capacity, size_t length, uint64_t *words, size_t nw, uint32_t *counters, size_t nc, uint64_t v,
-                  uint64_t *out, size_t out_len)
+void checked_push(size_t capacity, size_t length, size_t total, uint64_t *words, size_t nw, uint32_t *counters,
+                  size_t nc, uint64_t v, uint64_t *out, size_t out_len)
 {
-    if (out_len < 5) return;
-    uint64_t number = refusal(capacity, length, nw, nc);
+    if (out_len < 6) return;
+    uint64_t number = refusal(capacity, length, total, nw, nc);
     if (number == 0) number = v > 1 ? 8 : length == capacity ? 7 : 0;
-    if (number != 0) return answer(out, number, 0, 0, capacity, length);
-    answer(out, 0, length, tree_push(capacity, words, counters, length, v), capacity, length + 1);
+    if (number != 0) return answer(out, number, 0, 0, capacity, length, total);
+    answer(out, 0, length, tree_push(capacity, words, counters, length, v), capacity, length + 1, total + v);
 }
 
 } // extern "C"

@@ -44,9 +44,9 @@ impl Waiting {
 
     /// The least and the most misfires before i.
     pub fn count(&self, i: usize) -> (usize, usize) {
-        let ((x, y, count), n) = (self.pair.parts(), self.pair.bits);
+        let ((x, y, count), n, [s, t]) = (self.pair.parts(), self.pair.bits, self.pair.totals);
         let mut out = [0; 3];
-        unsafe { strip_waiting_count(n, n, x, count, n, n, y, count, i as u64, out.as_mut_ptr(), out.len()) };
+        unsafe { strip_waiting_count(n, n, s, x, count, n, n, t, y, count, i as u64, out.as_mut_ptr(), out.len()) };
         assert!(out[0] == 0);
         (out[1] as usize, out[2] as usize)
     }
@@ -58,9 +58,9 @@ impl Waiting {
 
     /// The earliest position, and the latest where every outcome has a k-th misfire.
     pub fn find(&self, k: usize) -> (usize, Option<usize>) {
-        let ((x, y, count), n) = (self.pair.parts(), self.pair.bits);
+        let ((x, y, count), n, [s, t]) = (self.pair.parts(), self.pair.bits, self.pair.totals);
         let mut out = [0; 4];
-        unsafe { strip_waiting_find(n, n, x, count, n, n, y, count, k as u64, out.as_mut_ptr(), out.len()) };
+        unsafe { strip_waiting_find(n, n, s, x, count, n, n, t, y, count, k as u64, out.as_mut_ptr(), out.len()) };
         assert!(out[0] == 0);
         (out[1] as usize, (out[2] == 1).then_some(out[3] as usize))
     }

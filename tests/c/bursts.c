@@ -6,14 +6,14 @@
 #include "judge.h"
 
 /* burst(w, m) of a strip over these words, held to the judge. */
-static void hold_burst(uint64_t capacity, uint64_t length, const uint64_t *words, size_t count, uint64_t w, uint64_t m)
+static void hold_burst(struct handle h, const uint64_t *words, size_t count, uint64_t w, uint64_t m)
 {
     struct row room;
-    struct opened strip = open_strip(&room, capacity, length, words, count);
-    uint64_t told = strip_burst(capacity, length, words, count, w, m);
+    struct opened strip = open_strip(&room, h, words, count);
+    uint64_t told = strip_burst(OF_HANDLE(h), words, count, w, m);
     if (burst_allowed(strip, w, m, told))
         return;
-    printf("burst(%" PRIu64 ", %" PRIu64 ") of %" PRIu64 " strokes: ", w, m, length);
+    printf("burst(%" PRIu64 ", %" PRIu64 ") of %" PRIu64 " strokes: ", w, m, h.length);
     print_answer(told);
     putchar('\n');
     failed = 1;
@@ -23,14 +23,14 @@ static void hold_burst(uint64_t capacity, uint64_t length, const uint64_t *words
 static void expect_example(void)
 {
     static const uint64_t a[8] = {0xeab6};
-    EXPECT(strip_burst(512, 17, a, 8, 3, 3), 13);
-    EXPECT(strip_burst(512, 17, a, 8, 15, 10), 1);
-    EXPECT(strip_burst(512, 17, a, 8, 17, 10), 0);
-    EXPECT(strip_burst(512, 17, a, 8, 17, 11), REFUSED(STRIP_NOT_FOUND));
-    EXPECT(strip_burst(512, 17, a, 8, 4, 4), REFUSED(STRIP_NOT_FOUND));
-    EXPECT(strip_burst(512, 17, a, 8, 18, 1), REFUSED(STRIP_NOT_FOUND));
-    EXPECT(strip_burst(512, 15, a, 8, 3, 3), REFUSED(STRIP_NOT_FOUND));
-    EXPECT(strip_burst(512, 16, a, 8, 3, 3), 13);
+    EXPECT(strip_burst(512, 17, 10, a, 8, 3, 3), 13);
+    EXPECT(strip_burst(512, 17, 10, a, 8, 15, 10), 1);
+    EXPECT(strip_burst(512, 17, 10, a, 8, 17, 10), 0);
+    EXPECT(strip_burst(512, 17, 10, a, 8, 17, 11), REFUSED(STRIP_NOT_FOUND));
+    EXPECT(strip_burst(512, 17, 10, a, 8, 4, 4), REFUSED(STRIP_NOT_FOUND));
+    EXPECT(strip_burst(512, 17, 10, a, 8, 18, 1), REFUSED(STRIP_NOT_FOUND));
+    EXPECT(strip_burst(512, 15, 9, a, 8, 3, 3), REFUSED(STRIP_NOT_FOUND));
+    EXPECT(strip_burst(512, 16, 10, a, 8, 3, 3), 13);
     EXPECT(a[0], 0xeab6);
 }
 
@@ -38,33 +38,39 @@ static void expect_example(void)
 static void expect_refusals(void)
 {
     static const uint64_t words[16] = {0xeab6, 7};
-    EXPECT(strip_burst(513, 17, words, 7, 0, 1), REFUSED(STRIP_BAD_HANDLE));
-    EXPECT(strip_burst(512, 513, words, 8, 3, 3), REFUSED(STRIP_BAD_HANDLE));
-    EXPECT(strip_burst(512, 17, words, 7, 0, 1), REFUSED(STRIP_BAD_WORDS));
-    EXPECT(strip_burst(512, 17, words, 9, 18, 1), REFUSED(STRIP_BAD_WORDS));
-    EXPECT(strip_burst(512, 17, words, 8, 0, 1), REFUSED(STRIP_BAD_WINDOW));
-    EXPECT(strip_burst(512, 17, words, 8, 18, 19), REFUSED(STRIP_BAD_WINDOW));
-    EXPECT(strip_burst(512, 17, words, 8, 65537, 1), REFUSED(STRIP_BAD_WINDOW));
-    EXPECT(strip_burst(512, 17, words, 8, 65536, 1), REFUSED(STRIP_NOT_FOUND));
-    EXPECT(strip_burst(512, 17, words, 8, WIDE + 3, 3), REFUSED(STRIP_BAD_WINDOW));
-    EXPECT(strip_burst(512, 17, words, 8, 3, WIDE + 3), REFUSED(STRIP_BAD_WINDOW));
-    EXPECT(strip_burst(512, 0, words, 8, 1, 1), REFUSED(STRIP_NOT_FOUND));
-    EXPECT(strip_burst(0, 0, NULL, 0, 1, 1), REFUSED(STRIP_BAD_HANDLE));
-    EXPECT(strip_burst(512, 0, NULL, 0, 0, 0), REFUSED(STRIP_BAD_WORDS));
+    EXPECT(strip_burst(513, 17, 0, words, 7, 0, 1), REFUSED(STRIP_BAD_HANDLE));
+    EXPECT(strip_burst(512, 513, 0, words, 8, 3, 3), REFUSED(STRIP_BAD_HANDLE));
+    EXPECT(strip_burst(512, 17, 18, words, 7, 0, 1), REFUSED(STRIP_BAD_HANDLE));
+    EXPECT(strip_burst(512, 17, 17, words, 7, 0, 1), REFUSED(STRIP_BAD_WORDS));
+    EXPECT(strip_burst(512, 17, 0, words, 7, 0, 1), REFUSED(STRIP_BAD_WORDS));
+    EXPECT(strip_burst(512, 17, 0, words, 9, 18, 1), REFUSED(STRIP_BAD_WORDS));
+    EXPECT(strip_burst(512, 17, 0, words, 8, 0, 1), REFUSED(STRIP_BAD_WINDOW));
+    EXPECT(strip_burst(512, 17, 0, words, 8, 18, 19), REFUSED(STRIP_BAD_WINDOW));
+    EXPECT(strip_burst(512, 17, 0, words, 8, 65537, 1), REFUSED(STRIP_BAD_WINDOW));
+    EXPECT(strip_burst(512, 17, 0, words, 8, 65536, 1), REFUSED(STRIP_NOT_FOUND));
+    EXPECT(strip_burst(512, 17, 0, words, 8, WIDE + 3, 3), REFUSED(STRIP_BAD_WINDOW));
+    EXPECT(strip_burst(512, 17, 0, words, 8, 3, WIDE + 3), REFUSED(STRIP_BAD_WINDOW));
+    EXPECT(strip_burst(512, 0, 0, words, 8, 1, 1), REFUSED(STRIP_NOT_FOUND));
+    EXPECT(strip_burst(0, 0, 0, NULL, 0, 1, 1), REFUSED(STRIP_BAD_HANDLE));
+    EXPECT(strip_burst(512, 0, 0, NULL, 0, 0, 0), REFUSED(STRIP_BAD_WORDS));
 
     static const struct {
-        uint64_t capacity, length;
+        struct handle handle;
         size_t count;
-    } strips[] = {{512, 17, 8},  {512, 0, 8},         {512, 512, 8},       {1024, 17, 16},     {513, 17, 8},
-                  {512, 513, 8}, {0, 17, 8},          {WIDE + 512, 17, 8}, {512, 17, 7},       {512, 17, 9},
-                  {512, 17, 0},  {1024, 17, 8},       {512, 513, 7},       {UINT64_MAX, 0, 8}, {512, WIDE + 17, 8},
-                  {0, 0, 0},     {512, UINT64_MAX, 9}};
+    } strips[] = {{{512, 17, 10}, 8},        {{512, 17, 17}, 8},         {{512, 0, 0}, 8},
+                  {{512, 512, 512}, 8},      {{1024, 17, 0}, 16},        {{513, 17, 0}, 8},
+                  {{512, 513, 0}, 8},        {{0, 17, 0}, 8},            {{WIDE + 512, 17, 0}, 8},
+                  {{512, 17, 18}, 8},        {{512, 17, 18}, 9},         {{512, 0, 1}, 8},
+                  {{512, 17, WIDE + 10}, 8}, {{512, 17, UINT64_MAX}, 8}, {{512, 17, 0}, 7},
+                  {{512, 17, 0}, 9},         {{512, 17, 0}, 0},          {{1024, 17, 0}, 8},
+                  {{512, 513, 0}, 7},        {{UINT64_MAX, 0, 0}, 8},    {{512, WIDE + 17, 0}, 8},
+                  {{0, 0, 0}, 0},            {{512, UINT64_MAX, 0}, 9}};
     static const uint64_t windows[] = {0, 1, 2, 3, 17, 18, 64, 65535, 65536, 65537, WIDE, WIDE + 3, UINT64_MAX};
     for (size_t s = 0; s < COUNT_OF(strips); s++)
         for (size_t w = 0; w < COUNT_OF(windows); w++)
             for (size_t m = 0; m < COUNT_OF(windows); m++)
-                hold_burst(strips[s].capacity, strips[s].length, strips[s].count == 0 ? NULL : words, strips[s].count,
-                           windows[w], windows[m]);
+                hold_burst(strips[s].handle, strips[s].count == 0 ? NULL : words, strips[s].count, windows[w],
+                           windows[m]);
 }
 
 /* Random strips of every border's length with bits past it, and windows of every border's width. */
@@ -80,13 +86,14 @@ static void expect_borders(void)
     for (size_t l = 0; l < COUNT_OF(small); l++)
         for (size_t k = 0; k < COUNT_OF(small); k++) {
             uint64_t w = small[k];
+            struct handle h = {CAPACITY, small[l], small[l] / 2};
             struct row room;
-            struct opened strip = open_strip(&room, CAPACITY, small[l], words, CAPACITY / 64);
+            struct opened strip = open_strip(&room, h, words, CAPACITY / 64);
             uint64_t most = w < 1 || w > small[l] ? 1 : most_ones(strip.row, w);
             for (uint64_t m = most == 0 ? 0 : most - 1; m <= most + 1; m++)
-                hold_burst(CAPACITY, small[l], words, CAPACITY / 64, w, m);
-            hold_burst(CAPACITY, small[l], words, CAPACITY / 64, w, w);
-            hold_burst(CAPACITY, small[l], words, CAPACITY / 64, w, w + 1);
+                hold_burst(h, words, CAPACITY / 64, w, m);
+            hold_burst(h, words, CAPACITY / 64, w, w);
+            hold_burst(h, words, CAPACITY / 64, w, w + 1);
         }
 }
 
@@ -100,8 +107,8 @@ static void expect_every_start(uint64_t w)
         words[s / 64] |= UINT64_C(1) << (s % 64);
         words[end / 64] |= UINT64_C(1) << (end % 64);
         memcpy(copy, words, sizeof copy);
-        expect("a burst at its start", strip_burst(CAPACITY, LENGTH, words, CAPACITY / 64, w, 2), s);
-        expect("three ones", strip_burst(CAPACITY, LENGTH, words, CAPACITY / 64, w, 3),
+        expect("a burst at its start", strip_burst(CAPACITY, LENGTH, 2, words, CAPACITY / 64, w, 2), s);
+        expect("three ones", strip_burst(CAPACITY, LENGTH, 2, words, CAPACITY / 64, w, 3),
                REFUSED(w < 3 ? STRIP_BAD_WINDOW : STRIP_NOT_FOUND));
         expect("the words as they were", memcmp(copy, words, sizeof copy) != 0, 0);
     }
@@ -112,19 +119,20 @@ static void expect_last_start(uint64_t w)
 {
     enum { CAPACITY = 1024, LENGTH = 1000 };
     static const uint64_t words[CAPACITY / 64] = {[LENGTH / 64] = UINT64_MAX << ((LENGTH - 1) % 64)};
-    expect("the last start", strip_burst(CAPACITY, LENGTH, words, CAPACITY / 64, w, 1), LENGTH - w);
-    expect("past the length", strip_burst(CAPACITY, LENGTH - 1, words, CAPACITY / 64, w, 1), REFUSED(STRIP_NOT_FOUND));
+    expect("the last start", strip_burst(CAPACITY, LENGTH, 2, words, CAPACITY / 64, w, 1), LENGTH - w);
+    expect("past the length", strip_burst(CAPACITY, LENGTH - 1, 0, words, CAPACITY / 64, w, 1),
+           REFUSED(STRIP_NOT_FOUND));
 }
 
 /* The greatest length: ones in the last strokes alone, the widest window of them, and one too wide. */
 static void expect_largest(void)
 {
     static uint64_t words[LARGEST / 64];
-    EXPECT(strip_burst(LARGEST, LARGEST, words, LARGEST / 64, WIDEST, 1), REFUSED(STRIP_NOT_FOUND));
+    EXPECT(strip_burst(LARGEST, LARGEST, WIDEST, words, LARGEST / 64, WIDEST, 1), REFUSED(STRIP_NOT_FOUND));
     memset(words + (LARGEST - WIDEST) / 64, 0xff, WIDEST / 8);
-    EXPECT(strip_burst(LARGEST, LARGEST, words, LARGEST / 64, WIDEST, WIDEST), LARGEST - WIDEST);
-    EXPECT(strip_burst(LARGEST, LARGEST - 1, words, LARGEST / 64, WIDEST, WIDEST), REFUSED(STRIP_NOT_FOUND));
-    EXPECT(strip_burst(LARGEST, LARGEST, words, LARGEST / 64, WIDEST + 1, WIDEST), REFUSED(STRIP_BAD_WINDOW));
+    EXPECT(strip_burst(LARGEST, LARGEST, WIDEST, words, LARGEST / 64, WIDEST, WIDEST), LARGEST - WIDEST);
+    EXPECT(strip_burst(LARGEST, LARGEST - 1, 0, words, LARGEST / 64, WIDEST, WIDEST), REFUSED(STRIP_NOT_FOUND));
+    EXPECT(strip_burst(LARGEST, LARGEST, WIDEST, words, LARGEST / 64, WIDEST + 1, WIDEST), REFUSED(STRIP_BAD_WINDOW));
 }
 
 int main(void)

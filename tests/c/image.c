@@ -25,17 +25,18 @@ static void freeze(uint8_t *image) {
     expect("clear of 15 bytes", image_clear(image, 15), REFUSED(STRIP_NO_ROOM));
     expect("clear", image_clear(image, 560), 16);
     expect("open of an empty chain", image_open(image, 560, 3), REFUSED(STRIP_LABEL_ABSENT));
-    expect("freeze, capacity 513", image_freeze(513, 5, words, 8, image, 560, 3), REFUSED(STRIP_BAD_HANDLE));
-    expect("freeze, seven words", image_freeze(512, 5, words, 7, image, 560, 3), REFUSED(STRIP_BAD_WORDS));
-    expect("freeze, no words", image_freeze(512, 5, NULL, 0, image, 560, 3), REFUSED(STRIP_BAD_WORDS));
-    expect("freeze on no bytes", image_freeze(512, 5, words, 8, NULL, 0, 3), REFUSED(STRIP_UNSOUND));
-    expect("freeze, label 65", image_freeze(512, 5, words, 8, image, 560, 65), REFUSED(STRIP_BAD_LABEL));
-    expect("freeze on 559 bytes", image_freeze(512, 5, words, 8, image, 559, 3), REFUSED(STRIP_NO_ROOM));
+    expect("freeze, capacity 513", image_freeze(513, 5, 2, words, 8, image, 560, 3), REFUSED(STRIP_BAD_HANDLE));
+    expect("freeze, total 6", image_freeze(512, 5, 6, words, 7, image, 560, 3), REFUSED(STRIP_BAD_HANDLE));
+    expect("freeze, seven words", image_freeze(512, 5, 2, words, 7, image, 560, 3), REFUSED(STRIP_BAD_WORDS));
+    expect("freeze, no words", image_freeze(512, 5, 2, NULL, 0, image, 560, 3), REFUSED(STRIP_BAD_WORDS));
+    expect("freeze on no bytes", image_freeze(512, 5, 2, words, 8, NULL, 0, 3), REFUSED(STRIP_UNSOUND));
+    expect("freeze, label 65", image_freeze(512, 5, 2, words, 8, image, 560, 65), REFUSED(STRIP_BAD_LABEL));
+    expect("freeze on 559 bytes", image_freeze(512, 5, 2, words, 8, image, 559, 3), REFUSED(STRIP_NO_ROOM));
     expect_bytes("bytes after refused calls", image, empty, sizeof empty);
-    expect("freeze", image_freeze(512, 5, words, 8, image, 560, 3), 1);
+    expect("freeze", image_freeze(512, 5, 2, words, 8, image, 560, 3), 1);
     expect_bytes("bytes after freeze", image, written, sizeof written);
-    expect("freeze again", image_freeze(512, 5, words, 8, image, 560, 3), REFUSED(STRIP_LABEL_PRESENT));
-    expect("freeze without room", image_freeze(512, 0, words, 8, image, 560, 4), REFUSED(STRIP_NO_ROOM));
+    expect("freeze again", image_freeze(512, 5, 2, words, 8, image, 560, 3), REFUSED(STRIP_LABEL_PRESENT));
+    expect("freeze without room", image_freeze(512, 0, 0, words, 8, image, 560, 4), REFUSED(STRIP_NO_ROOM));
     expect_bytes("bytes in the end", image, written, sizeof written);
 }
 
@@ -127,7 +128,7 @@ static void hold_image(const char *what, const uint8_t *image) {
         memcpy(copy, image, 560);
         expect(what, image_open(image, 560, labels[l]), open_answer(o));
         expect(what, image_row_length(image, 560, labels[l]), length_answer(o));
-        expect(what, image_freeze(512, 5, words, 8, copy, 560, labels[l]), freeze_answer(&j, 560, 5, labels[l]));
+        expect(what, image_freeze(512, 5, 2, words, 8, copy, 560, labels[l]), freeze_answer(&j, 560, 5, labels[l]));
         for (size_t k = 0; k < COUNT_OF(small); k++)
             hold_readings(what, image, o, labels[l], small[k]);
         for (size_t k = 0; k < COUNT_OF(far); k++)
@@ -151,8 +152,8 @@ static void freeze_rows(void) {
     write_record(wanted + 16, SECOND / 16, 64, 5000, words);
     write_record(wanted + SECOND, 0, 1, 0, words);
     expect("clear", image_clear(image, SIZE), 16);
-    expect("freeze of 5,000 bits", image_freeze(5120, 5000, words, 80, image, SIZE, 64), 1);
-    expect("freeze of no bits", image_freeze(5120, 0, words, 80, image, SIZE, 1), SECOND / 16);
+    expect("freeze of 5,000 bits", image_freeze(5120, 5000, 17, words, 80, image, SIZE, 64), 1);
+    expect("freeze of no bits", image_freeze(5120, 0, 0, words, 80, image, SIZE, 1), SECOND / 16);
     expect("bytes of two rows", memcmp(image, wanted, SIZE) == 0, 1);
 }
 

@@ -26,7 +26,7 @@ static struct image empty(size_t size)
 /* An image with one row more. */
 static struct image with(struct image image, uint64_t label, uint64_t length, uint64_t capacity, const uint64_t *words)
 {
-    uint64_t told = image_freeze(capacity, length, words, STRIP_WORDS(capacity), image.bytes, image.size, label);
+    uint64_t told = image_freeze(capacity, length, 0, words, STRIP_WORDS(capacity), image.bytes, image.size, label);
     expect("freeze", STRIP_REFUSED(told), 0);
     return image;
 }

@@ -5,19 +5,19 @@
 #include "expect.h"
 #include "judge.h"
 
-/* A strip over these words, and the four arguments that the calls take for it. */
+/* A strip over these words, and the five arguments that the calls take for it. */
 static struct strip over(uint64_t capacity, uint64_t length, const uint64_t *words, size_t words_len)
 {
-    return (struct strip){capacity, length, (const uint8_t *)words, words_len};
+    return (struct strip){{capacity, length, 0}, (const uint8_t *)words, words_len};
 }
 
-#define OF(s) (s).capacity, (s).length, (const uint64_t *)(s).bits, (s).words_len
+#define OF(s) OF_STRIP(s)
 
 /* The four counts, each with what it counts. */
 static const struct {
     const char *name;
-    uint64_t (*call)(uint64_t, uint64_t, const uint64_t *, size_t, uint64_t, uint64_t, const uint64_t *, size_t,
-                     uint64_t);
+    uint64_t (*call)(uint64_t, uint64_t, uint64_t, const uint64_t *, size_t, uint64_t, uint64_t, uint64_t,
+                     const uint64_t *, size_t, uint64_t);
     enum judged_so so;
 } counts[] = {{"pair both", strip_pair_both, BOTH_MARK},
               {"pair either", strip_pair_either, EITHER_MARKS},
@@ -101,26 +101,34 @@ static void expect_refusals(void)
 {
     static const uint64_t words[16] = {0xeab6, 7}, same[16] = {0xeab6, 7};
     const struct {
-        uint64_t capacity, length;
+        struct handle handle;
         size_t count;
-    } strips[] = {
-        {512, 17, 8}, {512, 16, 8},  {512, 512, 8}, {512, 0, 8},   {1024, 17, 16},      {1024, 16, 16},
-        {513, 17, 8}, {512, 513, 8}, {0, 0, 0},     {0, 17, 8},    {WIDE + 512, 17, 8}, {UINT64_MAX, UINT64_MAX, 8},
-        {512, 17, 7}, {512, 17, 9},  {512, 17, 0},  {1024, 17, 8}, {512, 17, 16}};
+    } strips[] = {{{512, 17, 10}, 8},         {{512, 17, 17}, 8},                        {{512, 16, 0}, 8},
+                  {{512, 512, 512}, 8},       {{512, 0, 0}, 8},                          {{1024, 17, 0}, 16},
+                  {{1024, 16, 16}, 16},       {{513, 17, 0}, 8},                         {{512, 513, 0}, 8},
+                  {{0, 0, 0}, 0},             {{0, 17, 0}, 8},                           {{WIDE + 512, 17, 0}, 8},
+                  {{512, 17, 18}, 8},         {{512, 17, 18}, 7},                        {{512, 0, 1}, 8},
+                  {{512, 16, UINT64_MAX}, 8}, {{1024, 17, WIDE + 17}, 16},               {{512, 17, 17}, 7},
+                  {{512, 17, 0}, 9},          {{512, 17, 0}, 0},                         {{1024, 17, 0}, 8},
+                  {{512, 17, 0}, 16},         {{UINT64_MAX, UINT64_MAX, UINT64_MAX}, 8}};
     for (size_t f = 0; f < COUNT_OF(strips); f++)
         for (size_t g = 0; g < COUNT_OF(strips); g++) {
             const uint64_t *first = strips[f].count == 0 ? NULL : words, *second = strips[g].count == 0 ? NULL : same;
-            hold_pair(over(strips[f].capacity, strips[f].length, first, strips[f].count),
-                      over(strips[g].capacity, strips[g].length, second, strips[g].count));
+            hold_pair((struct strip){strips[f].handle, (const uint8_t *)first, strips[f].count},
+                      (struct strip){strips[g].handle, (const uint8_t *)second, strips[g].count});
         }
 
-    EXPECT(strip_pair_both(512, 17, words, 7, 513, 17, same, 8, 18), REFUSED(STRIP_BAD_WORDS));
-    EXPECT(strip_pair_either(513, 17, words, 8, 512, 17, same, 7, 18), REFUSED(STRIP_BAD_HANDLE));
-    EXPECT(strip_pair_only_first(512, 17, words, 8, 512, 17, same, 7, 18), REFUSED(STRIP_BAD_WORDS));
-    EXPECT(strip_pair_differ(1024, 17, words, 16, 512, 17, same, 7, 18), REFUSED(STRIP_BAD_WORDS));
-    EXPECT(strip_pair_differ(512, 17, words, 8, 512, 16, same, 8, 18), REFUSED(STRIP_UNEQUAL));
-    EXPECT(strip_pair_find(512, 17, words, 8, 1024, 17, same, 16, UINT64_MAX), REFUSED(STRIP_UNEQUAL));
-    EXPECT_SPAN(strip_pair_span(512, 17, words, 8, 1024, 17, same, 16, 18, 17), REFUSED(STRIP_UNEQUAL));
+    EXPECT(strip_pair_both(512, 17, 0, words, 7, 513, 17, 0, same, 8, 18), REFUSED(STRIP_BAD_WORDS));
+    EXPECT(strip_pair_both(512, 17, 0, words, 7, 512, 17, 18, same, 8, 18), REFUSED(STRIP_BAD_WORDS));
+    EXPECT(strip_pair_either(513, 17, 0, words, 8, 512, 17, 0, same, 7, 18), REFUSED(STRIP_BAD_HANDLE));
+    EXPECT(strip_pair_either(512, 17, 18, words, 7, 512, 17, 0, same, 7, 18), REFUSED(STRIP_BAD_HANDLE));
+    EXPECT(strip_pair_only_first(512, 17, 0, words, 8, 512, 17, 0, same, 7, 18), REFUSED(STRIP_BAD_WORDS));
+    EXPECT(strip_pair_differ(1024, 17, 0, words, 16, 512, 17, 0, same, 7, 18), REFUSED(STRIP_BAD_WORDS));
+    EXPECT(strip_pair_differ(512, 17, 10, words, 8, 512, 16, 10, same, 8, 18), REFUSED(STRIP_UNEQUAL));
+    EXPECT(strip_pair_differ(512, 17, 10, words, 8, 512, 16, 17, same, 8, 18), REFUSED(STRIP_BAD_HANDLE));
+    EXPECT(strip_pair_differ(512, 17, 0, words, 8, 512, 17, 17, same, 8, 17), 0);
+    EXPECT(strip_pair_find(512, 17, 0, words, 8, 1024, 17, 0, same, 16, UINT64_MAX), REFUSED(STRIP_UNEQUAL));
+    EXPECT_SPAN(strip_pair_span(512, 17, 0, words, 8, 1024, 17, 0, same, 16, 18, 17), REFUSED(STRIP_UNEQUAL));
 }
 
 /* Random strips of every border's length, with bits past it. */

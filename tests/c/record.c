@@ -11,13 +11,13 @@
 /* Strip A, 01101101010101110: 17 bits. */
 static const char a[] = "01101101010101110";
 
-/* A record, the handle to go on with, and the last five numbers, with one past them. */
+/* A record, the handle to go on with, and the last six numbers, with one past them. */
 static uint64_t *words;
 static uint32_t *counters;
 static size_t words_len, counters_len;
-static uint64_t capacity, length, out[STRIP_OUT + 1];
+static uint64_t capacity, length, total, out[STRIP_OUT + 1];
 
-#define HANDLE capacity, length
+#define HANDLE capacity, length, total
 #define RECORD words, words_len, counters, counters_len
 #define OUT out, STRIP_OUT
 
@@ -27,8 +27,9 @@ static uint64_t changed(int value)
     if (out[3] != 0) {
         capacity = out[3];
         length = out[4];
+        total = out[5];
     }
-    expect("the number past the fifth", out[STRIP_OUT], 77);
+    expect("the number past the sixth", out[STRIP_OUT], 77);
     return out[0] != 0 ? REFUSED(out[0]) : out[value];
 }
 
@@ -69,7 +70,9 @@ static void full_strip(uint64_t c, size_t n)
     room(c, n);
     memset(words, 0xff, words_len * sizeof *words);
     capacity = length = c;
+    total = 0;
     EXPECT(fill(0, 0, 0), c);
+    EXPECT(total, c);
 }
 
 /* The number of counters: at each capacity of one and two levels, around the largest, and refused. */
@@ -95,6 +98,7 @@ int main(void)
     for (size_t p = 0; p < strlen(a); p++)
         EXPECT(push(a[p] == '1', 1), p);
     EXPECT(length, 17);
+    EXPECT(total, 10);
     EXPECT(words[0], 0xeab6);
     EXPECT(rank_of(1, 8), 5);
     EXPECT(rank_of(1, 7), 4);
@@ -114,11 +118,14 @@ int main(void)
     /* P8, P3 */
     EXPECT(flip(3, 2), 15);
     EXPECT(flip(6, 1), 1);
+    EXPECT(total, 12);
     EXPECT(rank_of(1, 8), 7);
     EXPECT(select_of(1, 7), 9);
     EXPECT(fill(2, 9, 0), 6);
+    EXPECT(total, 6);
     EXPECT(truncate_to(12), 3);
     EXPECT(length, 12);
+    EXPECT(total, 3);
     EXPECT(verify(), 3);
 
     /* refusals in order: they give back the handle, and two numbers 0 */
@@ -131,6 +138,23 @@ int main(void)
     EXPECT(out[1] + out[2], 0);
     EXPECT(out[3], 512);
     EXPECT(out[4], 12);
+    EXPECT(out[5], 3);
+
+    /* a wrong total: check tells it, find goes by it, turn stays in its range, and an empty span sets it right */
+    EXPECT(strip_verify(512, 12, 4, RECORD), REFUSED(STRIP_UNFIT));
+    EXPECT(strip_verify(512, 12, 2, RECORD), REFUSED(STRIP_UNFIT));
+    EXPECT(strip_verify(512, 12, 13, RECORD), REFUSED(STRIP_BAD_HANDLE));
+    EXPECT(strip_select(512, 12, 2, RECORD, 1, 2), REFUSED(STRIP_NOT_FOUND));
+    EXPECT(strip_select(512, 12, 4, RECORD, 0, 8), REFUSED(STRIP_NOT_FOUND));
+    total = 0;
+    EXPECT(flip(1, 1), REFUSED(STRIP_UNFIT));
+    EXPECT(out[5], 0);
+    total = 12;
+    EXPECT(flip(0, 1), REFUSED(STRIP_UNFIT));
+    EXPECT(out[5], 12);
+    EXPECT(words[0], 0xa02);
+    EXPECT(fill(0, 0, 0), 3);
+    EXPECT(total, 3);
 
     /* a wrong counter is found, and an empty span lays it right */
     counters[40]++;
@@ -146,15 +170,15 @@ int main(void)
     EXPECT(create(1024, 1), REFUSED(STRIP_BAD_WORDS));
     counters_len = 71;
     EXPECT(create(512, 1), REFUSED(STRIP_BAD_COUNTERS));
-    EXPECT(out[3] + out[4], 0);
+    EXPECT(out[3] + out[4] + out[5], 0);
     counters_len = 72;
-    EXPECT(strip_rank(512, 0, NULL, 0, NULL, 0, 2, 1), REFUSED(STRIP_BAD_WORDS));
-    EXPECT(strip_verify(0, 0, NULL, 0, NULL, 0), REFUSED(STRIP_BAD_HANDLE));
+    EXPECT(strip_rank(512, 0, 0, NULL, 0, NULL, 0, 2, 1), REFUSED(STRIP_BAD_WORDS));
+    EXPECT(strip_verify(0, 0, 0, NULL, 0, NULL, 0), REFUSED(STRIP_BAD_HANDLE));
 
     /* too short an `out`, or none: nothing happens */
     EXPECT(push(1, 1), 0);
     out[0] = 5;
-    strip_push(512, 1, RECORD, 1, out, STRIP_OUT - 1);
+    strip_push(512, 1, 1, RECORD, 1, out, STRIP_OUT - 1);
     strip_create(512, RECORD, NULL, 0);
     EXPECT(out[0], 5);
     EXPECT(verify(), 1);

@@ -58,12 +58,13 @@ static void expect_find(const char *call, struct strip_find_range told, uint64_t
     failed = 1;
 }
 
-static void expect_handle(const char *call, uint64_t capacity, uint64_t length)
+static void expect_handle(const char *call, struct strip_handle h)
 {
-    if (strip_record_capacity(&record) == capacity && strip_record_length(&record) == length)
+    if (strip_record_capacity(&record) == h.capacity && strip_record_length(&record) == h.length &&
+        strip_record_total(&record) == h.total)
         return;
     printf("after %s: capacity %" PRIu64 ", ", call, strip_record_capacity(&record));
-    printf("length %" PRIu64 "\n", strip_record_length(&record));
+    printf("length %" PRIu64 ", total %" PRIu64 "\n", strip_record_length(&record), strip_record_total(&record));
     failed = 1;
 }
 
@@ -82,14 +83,14 @@ static void expect_handle(const char *call, uint64_t capacity, uint64_t length)
 #define FROM(call, earliest) expect_find(#call, call, 0, earliest, 0, 0)
 #define FIND_REFUSAL(call, refusal) expect_find(#call, call, refusal, 0, 0, 0)
 
-/* A change: its values, with the length afterwards; or its refusal, and the handle as it was. */
-#define CHANGED(call, value, second, length) \
-    (expect(#call, call, 0, value, second), expect_handle(#call, CAPACITY, length))
-#define KEPT(call, refusal)                                                                            \
-    do {                                                                                               \
-        uint64_t capacity = strip_record_capacity(&record), length = strip_record_length(&record);     \
-        expect(#call, call, refusal, 0, 0);                                                            \
-        expect_handle(#call, capacity, length);                                                        \
+/* A change: its values, with the length and the total afterwards; or its refusal, and the handle as it was. */
+#define CHANGED(call, value, second, length, total) \
+    (expect(#call, call, 0, value, second), expect_handle(#call, (struct strip_handle){CAPACITY, length, total}))
+#define KEPT(call, refusal)                          \
+    do {                                             \
+        struct strip_handle handle = record.handle;  \
+        expect(#call, call, refusal, 0, 0);          \
+        expect_handle(#call, handle);                \
     } while (0)
 
 /* The record, which holds strip A, beside the other judge's; and beside records that may not be compared with it. */
@@ -181,7 +182,7 @@ int main(void)
 {
     /* not laid yet: every other call is refused by 1 */
     record = strip_record_over(words, STRIP_WORDS(CAPACITY), counters, STRIP_COUNTERS(CAPACITY));
-    expect_handle("strip_record_over", 0, 0);
+    expect_handle("strip_record_over", (struct strip_handle){0, 0, 0});
     KEPT(strip_record_push(&record, 1), STRIP_BAD_HANDLE);
     KEPT(strip_record_fill(&record, 0, 0, 0), STRIP_BAD_HANDLE);
     REFUSAL(strip_record_rank(&record, 1, 0), STRIP_BAD_HANDLE);
@@ -190,14 +191,17 @@ int main(void)
     KEPT(strip_record_create(&record, 513), STRIP_BAD_HANDLE);
 
     /* laid; the empty strip */
-    CHANGED(strip_record_create(&record, CAPACITY), 72, 0, 0);
+    CHANGED(strip_record_create(&record, CAPACITY), 72, 0, 0, 0);
     VALUE(strip_record_rank(&record, 0, 0), 0);
     REFUSAL(strip_record_select(&record, 0, 0), STRIP_NOT_FOUND);
     REFUSAL(strip_record_get(&record, 0), STRIP_POSITION);
 
     /* strip A, bit by bit: a one in the first block moves 15 counters, a zero none */
-    for (uint64_t p = 0; p < strlen(a); p++)
-        CHANGED(strip_record_push(&record, a[p] == '1'), p, a[p] == '1' ? 15 : 0, p + 1);
+    uint64_t ones = 0;
+    for (uint64_t p = 0; p < strlen(a); p++) {
+        ones += a[p] == '1';
+        CHANGED(strip_record_push(&record, a[p] == '1'), p, a[p] == '1' ? 15 : 0, p + 1, ones);
+    }
     KEPT(strip_record_push(&record, 2), STRIP_BAD_VALUE);
     KEPT(strip_record_push(&record, (UINT64_C(1) << 32) + 1), STRIP_BAD_VALUE);
 
@@ -250,29 +254,40 @@ int main(void)
     VALUE(strip_answer_of(image_row_rank(image, sizeof image, 3, 1, 8)), 5);
 
     /* changes */
-    CHANGED(strip_record_flip(&record, 3), 1, 15, 17);
-    CHANGED(strip_record_flip(&record, 6), 1, 15, 17);
+    CHANGED(strip_record_flip(&record, 3), 1, 15, 17, 11);
+    CHANGED(strip_record_flip(&record, 6), 1, 15, 17, 12);
     VALUE(strip_record_rank(&record, 1, 8), 7);
     VALUE(strip_record_select(&record, 1, 7), 9);
-    CHANGED(strip_record_fill(&record, 2, 9, 0), 6, 0, 17);
-    CHANGED(strip_record_truncate(&record, 12), 3, 0, 12);
-    CHANGED(strip_record_push(&record, 0), 12, 0, 13);
+    CHANGED(strip_record_fill(&record, 2, 9, 0), 6, 0, 17, 6);
+    CHANGED(strip_record_truncate(&record, 12), 3, 0, 12, 3);
+    CHANGED(strip_record_push(&record, 0), 12, 0, 13, 3);
 
     /* the same buffers, under the handle that was kept */
     record = strip_record_resume(record.handle, words, STRIP_WORDS(CAPACITY), counters, STRIP_COUNTERS(CAPACITY));
-    expect_handle("strip_record_resume", CAPACITY, 13);
+    expect_handle("strip_record_resume", (struct strip_handle){CAPACITY, 13, 3});
     VALUE(strip_record_verify(&record), 3);
+
+    /* under a wrong total: check tells it, a turn stays in its range, and a run over an empty span sets it right */
+    record.handle.total = 0;
+    REFUSAL(strip_record_verify(&record), STRIP_UNFIT);
+    REFUSAL(strip_record_select(&record, 1, 0), STRIP_NOT_FOUND);
+    KEPT(strip_record_flip(&record, 1), STRIP_UNFIT);
+    record.handle.total = 14;
+    REFUSAL(strip_record_get(&record, 0), STRIP_BAD_HANDLE);
+    KEPT(strip_record_fill(&record, 0, 0, 0), STRIP_BAD_HANDLE);
+    record.handle.total = 13;
+    CHANGED(strip_record_fill(&record, 0, 0, 0), 3, 0, 13, 3);
 
     /* a full strip */
     for (uint64_t p = 13; p < CAPACITY; p++)
-        CHANGED(strip_record_push(&record, 1), p, 15, p + 1);
+        CHANGED(strip_record_push(&record, 1), p, 15, p + 1, p - 9);
     KEPT(strip_record_push(&record, 1), STRIP_FULL);
     VALUE(strip_record_verify(&record), 502);
 
     /* a record that does not fit, and one laid anew */
     counters[40]++;
     REFUSAL(strip_record_verify(&record), STRIP_UNFIT);
-    CHANGED(strip_record_create(&record, CAPACITY), 72, 0, 0);
+    CHANGED(strip_record_create(&record, CAPACITY), 72, 0, 0, 0);
     VALUE(strip_record_verify(&record), 0);
     return failed;
 }

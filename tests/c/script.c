@@ -7,7 +7,7 @@
 static uint64_t words[8];
 static uint32_t counters[72];
 static uint8_t image[560];
-static uint64_t answers[3 + 3 * 32];
+static uint64_t answers[4 + 3 * 32];
 
 #define RECORD words, 8, counters, 72
 
@@ -25,11 +25,12 @@ static void strip_a(void)
         script[4 * i + 1] = (uint64_t)(bits[i] - '0');
     }
     memcpy(script + 4 * 17, calls, sizeof calls);
-    expect("calls", strip_execute(script, sizeof script / 8, 512, 0, RECORD, image, 560, answers, 3 + 3 * 32), 23);
+    expect("calls", strip_execute(script, sizeof script / 8, 512, 0, RECORD, image, 560, answers, 4 + 3 * 32), 23);
     expect("opening", answers[0], 0);
     expect("capacity", answers[1], 512);
     expect("length", answers[2], 17);
-    const uint64_t *a = answers + 3 + 3 * 17;
+    expect("total", answers[3], 11);
+    const uint64_t *a = answers + 4 + 3 * 17;
     expect("count(1, 8)", a[1], 5);
     expect("find(1, 7)", a[4], 13);
     expect("count(1, 18)", a[6], STRIP_POSITION);
@@ -43,16 +44,20 @@ static void strip_a(void)
 /* One call on the record that the script left. */
 static void steps(void)
 {
-    uint64_t out[5] = {0};
-    strip_step(OP_INSPECT, 0, 0, 0, 512, 17, RECORD, image, 560, out, 5);
+    uint64_t out[6] = {0};
+    strip_step(OP_INSPECT, 0, 0, 0, 512, 17, 11, RECORD, image, 560, out, 6);
     expect("inspect", out[1], 1);
-    strip_step(OP_TRUNCATE, 5, 0, 0, 512, 17, RECORD, image, 560, out, 5);
+    strip_step(OP_TRUNCATE, 5, 0, 0, 512, 17, 11, RECORD, image, 560, out, 6);
     expect("cut(5)", out[0], 0);
     expect("the handle's length", out[4], 5);
+    expect("its total", out[5], 4);
+    strip_step(OP_VERIFY, 0, 0, 0, 512, 5, 3, RECORD, image, 560, out, 6);
+    expect("check of a wrong total", out[0], STRIP_UNFIT);
+    expect("the total as it was", out[5], 3);
     counters[70] = 9;
-    strip_step(OP_VERIFY, 0, 0, 0, 512, 5, RECORD, image, 560, out, 5);
+    strip_step(OP_VERIFY, 0, 0, 0, 512, 5, 4, RECORD, image, 560, out, 6);
     expect("check of a record that does not fit", out[0], STRIP_UNFIT);
-    strip_step(OP_CREATE, 512, 0, 0, 512, 5, RECORD, image, 560, out, 4);
+    strip_step(OP_CREATE, 512, 0, 0, 512, 5, 4, RECORD, image, 560, out, 5);
     expect("too short an out", out[0], STRIP_UNFIT);
 }
 
@@ -60,12 +65,12 @@ int main(void)
 {
     strip_a();
     steps();
-    expect("answers too short", strip_execute(NULL, 0, 512, 0, RECORD, image, 560, answers, 2), UINT64_MAX);
+    expect("answers too short", strip_execute(NULL, 0, 512, 0, RECORD, image, 560, answers, 3), UINT64_MAX);
     answers[1] = 7;
-    expect("lay refused", strip_execute(NULL, 0, 513, 0, RECORD, image, 560, answers, 3), 0);
+    expect("lay refused", strip_execute(NULL, 0, 513, 0, RECORD, image, 560, answers, 4), 0);
     expect("its number", answers[0], STRIP_BAD_HANDLE);
     expect("no other answer", answers[1], 7);
-    expect("clear refused first", strip_execute(NULL, 0, 513, 1, RECORD, image, 15, answers, 3), 0);
+    expect("clear refused first", strip_execute(NULL, 0, 513, 1, RECORD, image, 15, answers, 4), 0);
     expect("its number", answers[0], STRIP_NO_ROOM);
     return failed;
 }

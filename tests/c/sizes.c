@@ -42,7 +42,7 @@ _Static_assert(!STRIP_REFUSED(INT64_C(0)) && !STRIP_REFUSED((int64_t)LARGEST), "
 _Static_assert(STRIP_REFUSED((INT64_C(1) << 32) + 1) && STRIP_REFUSED((INT64_C(1) << 32) + 16), "refusals");
 _Static_assert(STRIP_REFUSAL((INT64_C(1) << 32) + 16) == STRIP_UNEQUAL, "a refusal");
 
-_Static_assert(STRIP_OUT == 5 && IMAGE_HEADER_BYTES == 16, "fixed sizes");
+_Static_assert(STRIP_OUT == 6 && IMAGE_HEADER_BYTES == 16, "fixed sizes");
 _Static_assert(STRIP_WAITING_COUNT_OUT == 3 && STRIP_WAITING_FIND_OUT == 4, "fixed sizes");
 _Static_assert(STRIP_WORDS(SMALLEST) == 8 && STRIP_WORDS(LARGEST) == 2097152, "words");
 _Static_assert(STRIP_COUNTERS(32768) == 72 && STRIP_COUNTERS(33280) == 216, "counters of one level and of two");
@@ -77,14 +77,14 @@ static void expect_allowed(uint64_t capacity)
 {
     size_t w = STRIP_WORDS(capacity), c = STRIP_COUNTERS(capacity);
     expect_at("counters told", capacity, strip_counter_count(capacity), c);
-    expect_at("words and counters", capacity, strip_rank(capacity, 0, words, w, counters, c, 1, 0), 0);
-    expect_at("a word less", capacity, strip_rank(capacity, 0, words, w - 1, counters, c, 1, 0),
+    expect_at("words and counters", capacity, strip_rank(capacity, 0, 0, words, w, counters, c, 1, 0), 0);
+    expect_at("a word less", capacity, strip_rank(capacity, 0, 0, words, w - 1, counters, c, 1, 0),
               REFUSED(STRIP_BAD_WORDS));
-    expect_at("a word more", capacity, strip_rank(capacity, 0, words, w + 1, counters, c, 1, 0),
+    expect_at("a word more", capacity, strip_rank(capacity, 0, 0, words, w + 1, counters, c, 1, 0),
               REFUSED(STRIP_BAD_WORDS));
-    expect_at("a counter less", capacity, strip_rank(capacity, 0, words, w, counters, c - 1, 1, 0),
+    expect_at("a counter less", capacity, strip_rank(capacity, 0, 0, words, w, counters, c - 1, 1, 0),
               REFUSED(STRIP_BAD_COUNTERS));
-    expect_at("a counter more", capacity, strip_rank(capacity, 0, words, w, counters, c + 1, 1, 0),
+    expect_at("a counter more", capacity, strip_rank(capacity, 0, 0, words, w, counters, c + 1, 1, 0),
               REFUSED(STRIP_BAD_COUNTERS));
 }
 
@@ -103,9 +103,10 @@ static void expect_row(uint64_t length)
 {
     size_t size = IMAGE_HEADER_BYTES + IMAGE_RECORD_BYTES(length);
     expect_at("clear", length, image_clear(image, size), IMAGE_HEADER_BYTES);
-    expect_at("a byte less", length, image_freeze(LARGEST, length, words, STRIP_WORDS(LARGEST), image, size - 1, 1),
+    expect_at("a byte less", length, image_freeze(LARGEST, length, 0, words, STRIP_WORDS(LARGEST), image, size - 1, 1),
               REFUSED(STRIP_NO_ROOM));
-    expect_at("room for a row", length, image_freeze(LARGEST, length, words, STRIP_WORDS(LARGEST), image, size, 1), 1);
+    expect_at("room for a row", length, image_freeze(LARGEST, length, 0, words, STRIP_WORDS(LARGEST), image, size, 1),
+              1);
     expect_at("the byte after it", length, image[size], 0xa5);
 }
 

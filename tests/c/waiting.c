@@ -6,13 +6,13 @@
 #include "expect.h"
 #include "judge.h"
 
-/* A strip over these words, and the four arguments that the calls take for it. */
+/* A strip over these words, and the five arguments that the calls take for it. */
 static struct strip over(uint64_t capacity, uint64_t length, const uint64_t *words, size_t words_len)
 {
-    return (struct strip){capacity, length, (const uint8_t *)words, words_len};
+    return (struct strip){{capacity, length, 0}, (const uint8_t *)words, words_len};
 }
 
-#define OF(s) (s).capacity, (s).length, (const uint64_t *)(s).bits, (s).words_len
+#define OF(s) OF_STRIP(s)
 
 /* ---- What the calls tell, and no more than that. */
 
@@ -21,8 +21,9 @@ enum { COUNT_OUT = STRIP_WAITING_COUNT_OUT, FIND_OUT = STRIP_WAITING_FIND_OUT, R
 static const uint64_t stale[ROOM] = {11, 22, 33, 44, 55, 66};
 
 /* The call's numbers, with exactly as many places lent as it writes and with more. */
-static struct waiting_answer told(void (*call)(uint64_t, uint64_t, const uint64_t *, size_t, uint64_t, uint64_t,
-                                               const uint64_t *, size_t, uint64_t, uint64_t *, size_t),
+static struct waiting_answer told(void (*call)(uint64_t, uint64_t, uint64_t, const uint64_t *, size_t, uint64_t,
+                                               uint64_t, uint64_t, const uint64_t *, size_t, uint64_t, uint64_t *,
+                                               size_t),
                                   size_t numbers, struct strip s, struct strip t, uint64_t at)
 {
     uint64_t out[ROOM], more[ROOM];
@@ -133,12 +134,12 @@ static void hold_find(struct strip s, struct strip t, uint64_t k)
     size_t without = 0;
     for (size_t o = 0; o < outcome_count; o++) {
         uint64_t left = k, p = 0;
-        while (p < s.length && (bit((const uint8_t *)outcomes[o], p) == 0 || left-- != 0))
+        while (p < s.handle.length && (bit((const uint8_t *)outcomes[o], p) == 0 || left-- != 0))
             p++;
-        without += p == s.length;
-        if (p < s.length && p < earliest)
+        without += p == s.handle.length;
+        if (p < s.handle.length && p < earliest)
             earliest = p;
-        if (p < s.length && p > latest)
+        if (p < s.handle.length && p > latest)
             latest = p;
     }
     EXPECT_FIND(s, t, k,
@@ -232,17 +233,21 @@ static void expect_refusals(void)
 {
     static const uint64_t words[16] = {0xeab6, 7}, marks[16] = {0x1200c, 4};
     const struct {
-        uint64_t capacity, length;
+        struct handle handle;
         size_t count;
-    } strips[] = {
-        {512, 17, 8}, {512, 16, 8},  {512, 512, 8}, {512, 0, 8},   {1024, 17, 16},      {1024, 16, 16},
-        {513, 17, 8}, {512, 513, 8}, {0, 0, 0},     {0, 17, 8},    {WIDE + 512, 17, 8}, {UINT64_MAX, UINT64_MAX, 8},
-        {512, 17, 7}, {512, 17, 9},  {512, 17, 0},  {1024, 17, 8}, {512, 17, 16}};
+    } strips[] = {{{512, 17, 10}, 8},         {{512, 17, 17}, 8},                        {{512, 16, 0}, 8},
+                  {{512, 512, 512}, 8},       {{512, 0, 0}, 8},                          {{1024, 17, 0}, 16},
+                  {{1024, 16, 16}, 16},       {{513, 17, 0}, 8},                         {{512, 513, 0}, 8},
+                  {{0, 0, 0}, 0},             {{0, 17, 0}, 8},                           {{WIDE + 512, 17, 0}, 8},
+                  {{512, 17, 18}, 8},         {{512, 17, 18}, 7},                        {{512, 0, 1}, 8},
+                  {{512, 16, UINT64_MAX}, 8}, {{1024, 17, WIDE + 17}, 16},               {{512, 17, 17}, 7},
+                  {{512, 17, 0}, 9},          {{512, 17, 0}, 0},                         {{1024, 17, 0}, 8},
+                  {{512, 17, 0}, 16},         {{UINT64_MAX, UINT64_MAX, UINT64_MAX}, 8}};
     for (size_t f = 0; f < COUNT_OF(strips); f++)
         for (size_t g = 0; g < COUNT_OF(strips); g++) {
             const uint64_t *strip = strips[f].count == 0 ? NULL : words, *mark = strips[g].count == 0 ? NULL : marks;
-            hold_pair(over(strips[f].capacity, strips[f].length, strip, strips[f].count),
-                      over(strips[g].capacity, strips[g].length, mark, strips[g].count));
+            hold_pair((struct strip){strips[f].handle, (const uint8_t *)strip, strips[f].count},
+                      (struct strip){strips[g].handle, (const uint8_t *)mark, strips[g].count});
         }
 
     EXPECT_COUNT(over(512, 17, words, 7), over(513, 17, marks, 8), 18, NUMBER(STRIP_BAD_WORDS));

@@ -113,12 +113,20 @@ static inline uint64_t clear_answer(uint64_t size)
     return size < 16 || size > WIDE ? REFUSED(STRIP_NO_ROOM) : 16;
 }
 
+/* A handle. The total is the number of ones; the calls on words alone only judge it. */
+struct handle {
+    uint64_t capacity, length, total;
+};
+
+/* The three arguments of a handle. */
+#define OF_HANDLE(h) (h).capacity, (h).length, (h).total
+
 /* 1 and 2 of a call with so many words lent, or 0. */
-static inline uint64_t handle_refused(uint64_t capacity, uint64_t length, uint64_t words_len)
+static inline uint64_t handle_refused(struct handle h, uint64_t words_len)
 {
-    if (!capacity_good(capacity) || length > capacity)
+    if (!capacity_good(h.capacity) || h.length > h.capacity || h.total > h.length)
         return REFUSED(STRIP_BAD_HANDLE);
-    return words_len != capacity / 64 ? REFUSED(STRIP_BAD_WORDS) : 0;
+    return words_len != h.capacity / 64 ? REFUSED(STRIP_BAD_WORDS) : 0;
 }
 
 /* Where the next record starts: at the last one's end, or at unit 1. */
@@ -331,11 +339,10 @@ static inline int select_allowed(struct opened o, uint64_t v, uint64_t k, uint64
 /* ---- the calls on a strip's words alone. Words lie in memory as the bits of a row do. */
 
 /* The strip as a row, in `room`: 1, 2. */
-static inline struct opened open_strip(struct row *room, uint64_t capacity, uint64_t length, const void *words,
-                                       uint64_t words_len)
+static inline struct opened open_strip(struct row *room, struct handle h, const void *words, uint64_t words_len)
 {
-    uint64_t refused = handle_refused(capacity, length, words_len);
-    *room = (struct row){0, 0, length, words, 1};
+    uint64_t refused = handle_refused(h, words_len);
+    *room = (struct row){0, 0, h.length, words, 1};
     return (struct opened){refused == 0 ? room : NULL, refused};
 }
 
@@ -422,21 +429,25 @@ static inline uint64_t word_select_answer(uint64_t x, uint64_t k)
 
 /* A strip as it is lent: its handle, its words as bytes, and how many words they are. */
 struct strip {
-    uint64_t capacity, length;
+    struct handle handle;
     const uint8_t *bits;
     uint64_t words_len;
 };
 
+/* The arguments of a strip on words alone. */
+#define OF_STRIP(s) OF_HANDLE((s).handle), (const uint64_t *)(s).bits, (s).words_len
+
 /* 1 and 2 of the first strip, 1 and 2 of the second, 16, or 0. */
 static inline uint64_t pair_refused(struct strip first, struct strip second)
 {
-    uint64_t refused = handle_refused(first.capacity, first.length, first.words_len);
+    struct handle h = first.handle, g = second.handle;
+    uint64_t refused = handle_refused(h, first.words_len);
     if (refused != 0)
         return refused;
-    refused = handle_refused(second.capacity, second.length, second.words_len);
+    refused = handle_refused(g, second.words_len);
     if (refused != 0)
         return refused;
-    return first.capacity != second.capacity || first.length != second.length ? REFUSED(STRIP_UNEQUAL) : 0;
+    return h.capacity != g.capacity || h.length != g.length ? REFUSED(STRIP_UNEQUAL) : 0;
 }
 
 /* Which strokes of two strips are counted. */
@@ -459,7 +470,7 @@ static inline uint64_t pair_count_answer(enum judged_so so, struct strip first, 
     uint64_t refused = pair_refused(first, second), strokes = 0;
     if (refused != 0)
         return refused;
-    if (i > first.length)
+    if (i > first.handle.length)
         return REFUSED(STRIP_POSITION);
     for (uint64_t p = 0; p < i; p++)
         strokes += stroke_so(so, first, second, p);
@@ -472,7 +483,7 @@ static inline uint64_t pair_find_answer(struct strip first, struct strip second,
     uint64_t refused = pair_refused(first, second);
     if (refused != 0)
         return refused;
-    for (uint64_t p = 0; p < first.length; p++) {
+    for (uint64_t p = 0; p < first.handle.length; p++) {
         if (!stroke_so(JUDGED_DIFFERENTLY, first, second, p))
             continue;
         if (k == 0)
@@ -491,7 +502,7 @@ static inline int64_t pair_span_answer(struct strip first, struct strip second, 
         return (int64_t)refused;
     if (a > b)
         return (int64_t)REFUSED(STRIP_SPAN);
-    if (b > first.length)
+    if (b > first.handle.length)
         return (int64_t)REFUSED(STRIP_POSITION);
     for (uint64_t p = a; p < b; p++)
         difference += (int64_t)bit(first.bits, p) - (int64_t)bit(second.bits, p);
@@ -532,7 +543,7 @@ static inline struct waiting_answer waiting_count_answer(struct strip strip, str
     struct ones_range ones = {0, 0};
     if (refused != 0)
         return waiting_refused(refused);
-    if (i > strip.length)
+    if (i > strip.handle.length)
         return waiting_refused(REFUSED(STRIP_POSITION));
     for (uint64_t p = 0; p < i; p++)
         ones = past_stroke(ones, strip, waiting, p);
@@ -548,7 +559,7 @@ static inline struct waiting_answer waiting_find_answer(struct strip strip, stru
     int found = 0;
     if (refused != 0)
         return waiting_refused(refused);
-    for (uint64_t p = 0; p < strip.length && ones.least <= k; p++) {
+    for (uint64_t p = 0; p < strip.handle.length && ones.least <= k; p++) {
         int can_be_one = bit(strip.bits, p) == 1 || bit(waiting.bits, p) == 1;
         if (can_be_one && k <= ones.most) {
             earliest = found ? earliest : p;

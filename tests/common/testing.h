@@ -57,22 +57,22 @@ uint64_t image_opened_select(const uint8_t *image, size_t image_len, uint64_t la
  */
 
 /* The opening lay(capacity) and clear, clear first where clear_first is not 0, then every call of the script, each on
- * what the one before left. Returns the number of calls run. The answers: refusal of the opening or 0, capacity and
- * length of the last handle; then for each call refusal or 0, first value, second value, 0 where there is none. Later
- * places stay as they are. A refused opening puts its number into answers[0], changes nothing else and returns 0.
- * Numbers past the last whole call are not read. With fewer than 3 + 3 * (script_len / 4) answers lent nothing runs,
- * and 2^64 - 1 is returned. Refusals of the opening: 1, 2, 3, 13; 13 first where clear_first is not 0. */
+ * what the one before left. Returns the number of calls run. The answers: refusal of the opening or 0, capacity,
+ * length and total of the last handle; then for each call refusal or 0, first value, second value, 0 where there is
+ * none. Later places stay as they are. A refused opening puts its number into answers[0], changes nothing else and
+ * returns 0. Numbers past the last whole call are not read. With fewer than 4 + 3 * (script_len / 4) answers lent
+ * nothing runs, and 2^64 - 1 is returned. Refusals of the opening: 1, 2, 3, 13; 13 first where clear_first is not 0. */
 uint64_t strip_execute(const uint64_t *script, size_t script_len, uint64_t capacity, uint64_t clear_first,
                        uint64_t *words, size_t words_len, uint32_t *counters, size_t counters_len, uint8_t *image,
                        size_t image_len, uint64_t *answers, size_t answers_len);
 
-/* One call of a script, on the handle (capacity, length) and any buffers, fitting or not. Writes five numbers to
- * `out`: refusal or 0, first value, second value, capacity and length of the handle that is in use afterwards. With
- * fewer than five lent it does nothing at all.
+/* One call of a script, on the handle (capacity, length, total) and any buffers, fitting or not. Writes six numbers to
+ * `out`: refusal or 0, first value, second value, capacity, length and total of the handle that is in use afterwards.
+ * With fewer than six lent it does nothing at all.
  * Refusals: the call's own. */
-void strip_step(uint64_t op, uint64_t x, uint64_t y, uint64_t z, uint64_t capacity, uint64_t length, uint64_t *words,
-                size_t words_len, uint32_t *counters, size_t counters_len, uint8_t *image, size_t image_len,
-                uint64_t *out, size_t out_len);
+void strip_step(uint64_t op, uint64_t x, uint64_t y, uint64_t z, uint64_t capacity, uint64_t length, uint64_t total,
+                uint64_t *words, size_t words_len, uint32_t *counters, size_t counters_len, uint8_t *image,
+                size_t image_len, uint64_t *out, size_t out_len);
 
 #ifdef __cplusplus
 }

@@ -29,7 +29,8 @@ int main(int count, char **args)
         if (sscanf(args[k], "%" SCNu64 ":%" SCNu64 ":%" SCNu64, &label, &length, &step) != 3 || length > CAPACITY)
             return 1;
         fill(length, step);
-        if (STRIP_REFUSED(image_freeze(CAPACITY, length, words, STRIP_WORDS(CAPACITY), image, size, label)))
+        /* Freezing counts the ones in the words, so that any total up to the length will do. */
+        if (STRIP_REFUSED(image_freeze(CAPACITY, length, 0, words, STRIP_WORDS(CAPACITY), image, size, label)))
             return 1;
     }
     return fwrite(image, 1, size, stdout) == size ? 0 : 1;

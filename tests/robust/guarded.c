@@ -47,7 +47,7 @@ static const struct {
     [COUNTER_COUNT] = {"strip_counter_count", R(STRIP_BAD_HANDLE)},
     [CREATE] = {"strip_create", RECORD},
     [PUSH] = {"strip_push", RECORD | R(STRIP_BAD_VALUE) | R(STRIP_FULL)},
-    [FLIP] = {"strip_flip", RECORD | R(STRIP_POSITION)},
+    [FLIP] = {"strip_flip", RECORD | R(STRIP_POSITION) | R(STRIP_UNFIT)},
     [FILL] = {"strip_fill", RECORD | R(STRIP_BAD_VALUE) | R(STRIP_SPAN) | R(STRIP_POSITION)},
     [TRUNCATE] = {"strip_truncate", RECORD | R(STRIP_POSITION)},
     [GET] = {"strip_get", HANDLE | R(STRIP_POSITION)},
@@ -264,21 +264,45 @@ static struct copy words_copy, counters_copy, image_copy, third_copy;
 /* ---- a record */
 
 struct record {
-    uint64_t capacity, length;
+    struct handle handle;
     struct lent words, counters;
 };
 
-/* A handle as passed: mostly the record's. */
+/* A capacity as passed: mostly the record's. */
 static uint64_t some_capacity(const struct record *r)
 {
+    uint64_t capacity = r->handle.capacity;
     if (!one_in(16))
-        return r->capacity;
-    return one_in(4) ? r->capacity + 512 : bad_capacities[below(COUNT_OF(bad_capacities))];
+        return capacity;
+    return one_in(4) ? capacity + 512 : bad_capacities[below(COUNT_OF(bad_capacities))];
 }
 
-static uint64_t some_length(const struct record *r)
+/* A handle as passed: mostly the record's. */
+static struct handle some_handle(const struct record *r)
 {
-    return one_in(24) ? (one_in(2) ? r->capacity + 1 : huge()) : r->length;
+    struct handle h = r->handle;
+    h.capacity = some_capacity(r);
+    if (one_in(24))
+        h.length = one_in(2) ? r->handle.capacity + 1 : huge();
+    switch (below(24)) {
+    case 0: h.total = one_in(2) ? r->handle.length + 1 : huge(); break;
+    case 1: h.total = WIDE + h.total; break;
+    case 2: h.total = near(h.total); break;
+    case 3: h.total = one_in(2) ? 0 : r->handle.length; break;
+    default: break;
+    }
+    return h;
+}
+
+/* The handle among the numbers that a change writes. */
+static struct handle handle_told(const uint64_t *out)
+{
+    return (struct handle){out[3], out[4], out[5]};
+}
+
+static int same_handle(struct handle h, struct handle g)
+{
+    return h.capacity == g.capacity && h.length == g.length && h.total == g.total;
 }
 
 static void bytes_drawn(uint8_t *at, size_t n, unsigned kind)
@@ -322,22 +346,33 @@ static int told_out(enum call call, struct out o)
     return 1;
 }
 
-/* One change with drawn arguments, under the handle of c and n. What create is lent is not set. */
-static void make_change(const struct record *r, enum call call, uint64_t c, uint64_t n, struct out o)
+/* One change with drawn arguments, under a handle. What create is lent is not set. */
+static void make_change(const struct record *r, enum call call, struct handle h, uint64_t v, struct out o)
 {
-    uint64_t i = position(r->length), k = one_in(2) ? i + below(200) : position(r->length), v = value();
+    uint64_t length = r->handle.length, i = position(length), k = one_in(2) ? i + below(200) : position(length);
     if (call == CREATE) {
         VALGRIND_MAKE_MEM_UNDEFINED(r->words.write, r->words.length);
         VALGRIND_MAKE_MEM_UNDEFINED(r->counters.write, r->counters.length);
-        strip_create(c, WORDS_MUT(r), COUNTERS_MUT(r), o.at, o.room);
+        strip_create(h.capacity, WORDS_MUT(r), COUNTERS_MUT(r), o.at, o.room);
     } else if (call == PUSH) {
-        strip_push(c, n, WORDS_MUT(r), COUNTERS_MUT(r), v, o.at, o.room);
+        strip_push(OF_HANDLE(h), WORDS_MUT(r), COUNTERS_MUT(r), v, o.at, o.room);
     } else if (call == FLIP) {
-        strip_flip(c, n, WORDS_MUT(r), COUNTERS_MUT(r), i, o.at, o.room);
+        strip_flip(OF_HANDLE(h), WORDS_MUT(r), COUNTERS_MUT(r), i, o.at, o.room);
     } else if (call == FILL) {
-        strip_fill(c, n, WORDS_MUT(r), COUNTERS_MUT(r), i, k, v, o.at, o.room);
+        strip_fill(OF_HANDLE(h), WORDS_MUT(r), COUNTERS_MUT(r), i, k, v, o.at, o.room);
     } else {
-        strip_truncate(c, n, WORDS_MUT(r), COUNTERS_MUT(r), i, o.at, o.room);
+        strip_truncate(OF_HANDLE(h), WORDS_MUT(r), COUNTERS_MUT(r), i, o.at, o.room);
+    }
+}
+
+/* The total that an accepted change leaves: by its values, or moved by one. */
+static uint64_t total_left(enum call call, uint64_t total, uint64_t v, uint64_t first_value)
+{
+    switch (call) {
+    case CREATE: return 0;
+    case PUSH: return total + v;
+    case FLIP: return first_value == 1 ? total + 1 : total - 1;
+    default: return first_value;
     }
 }
 
@@ -351,40 +386,43 @@ static int all_set(struct lent l)
 /* One change; the record goes on with the handle given back. Refused, or with no room, it changes nothing. */
 static void change(struct record *r, enum call call)
 {
-    uint64_t c = some_capacity(r), n = some_length(r);
+    struct handle h = some_handle(r);
+    uint64_t v = value();
     struct out o = lend_out(STRIP_OUT);
     uint64_t *out = (uint64_t *)o.lent.write;
     keep(&words_copy, r->words);
     keep(&counters_copy, r->counters);
-    make_change(r, call, c, n, o);
+    make_change(r, call, h, v, o);
     if (told_out(call, o) && out[0] == 0) {
         expect(call, all_set(r->words) && all_set(r->counters), "left a number unset");
-        expect(call, out[3] == c && out[4] <= c, "a wrong handle given back");
-        r->capacity = out[3];
-        r->length = out[4];
+        expect(call, out[3] == h.capacity && out[4] <= h.capacity && out[5] <= out[4], "a wrong handle given back");
+        expect(call, out[5] == total_left(call, h.total, v, out[1]), "a wrong total given back");
+        r->handle = handle_told(out);
         return;
     }
     VALGRIND_MAKE_MEM_DEFINED(r->words.write, r->words.length);
     VALGRIND_MAKE_MEM_DEFINED(r->counters.write, r->counters.length);
     expect(call, same(&words_copy, r->words) && same(&counters_copy, r->counters), "refused, and changed the record");
-    if (o.room >= STRIP_OUT && call != CREATE)
-        expect(call, out[3] == c && out[4] == n, "refused, and another handle given back");
+    if (o.room >= STRIP_OUT)
+        expect(call, same_handle(handle_told(out), call == CREATE ? (struct handle){0, 0, 0} : h),
+               "refused, and another handle given back");
 }
 
 /* look, next and prior, held to the judge. */
 static void read_words(struct record *r, enum call call)
 {
-    uint64_t c = some_capacity(r), n = some_length(r), i = position(r->length), v = value(), answer, wanted;
+    struct handle h = some_handle(r);
+    uint64_t i = position(r->handle.length), v = value(), answer, wanted;
     struct row room;
-    struct opened strip = open_strip(&room, c, n, r->words.write, r->words.length / 8);
+    struct opened strip = open_strip(&room, h, r->words.write, r->words.length / 8);
     if (call == GET) {
-        answer = strip_get(c, n, WORDS(r), i);
+        answer = strip_get(OF_HANDLE(h), WORDS(r), i);
         wanted = get_answer(strip, i);
     } else if (call == SUCCESSOR) {
-        answer = strip_successor(c, n, WORDS(r), v, i);
+        answer = strip_successor(OF_HANDLE(h), WORDS(r), v, i);
         wanted = successor_answer(strip, v, i);
     } else {
-        answer = strip_predecessor(c, n, WORDS(r), v, i);
+        answer = strip_predecessor(OF_HANDLE(h), WORDS(r), v, i);
         wanted = predecessor_answer(strip, v, i);
     }
     expect(call, told(call, answer) == wanted, "another answer");
@@ -405,34 +443,44 @@ static uint64_t width(uint64_t length)
 /* burst, held to the judge: m at times around the most that a window holds. */
 static void seek_burst(struct record *r)
 {
-    uint64_t c = some_capacity(r), n = some_length(r), w = width(r->length);
-    uint64_t m = one_in(2) ? 1 : one_in(4) ? WIDE + 1 : near(w);
+    struct handle h = some_handle(r);
+    uint64_t w = width(r->handle.length), m = one_in(2) ? 1 : one_in(4) ? WIDE + 1 : near(w);
     struct row room;
-    struct opened strip = open_strip(&room, c, n, r->words.write, r->words.length / 8);
+    struct opened strip = open_strip(&room, h, r->words.write, r->words.length / 8);
     if (burst_refused(strip, w, 1) == 0 && !one_in(4))
         m = near(most_ones(strip.row, w));
-    uint64_t answer = told(BURST, strip_burst(c, n, WORDS(r), w, m));
+    uint64_t answer = told(BURST, strip_burst(OF_HANDLE(h), WORDS(r), w, m));
     expect(BURST, burst_allowed(strip, w, m, answer), "another answer");
 }
 
-/* count, find and check: within their bounds. */
+/* count, find and check: within their bounds. A find is refused with 6 exactly where length and total give too few of
+ * v; check, where accepted, tells the total. */
 static void read_record(struct record *r, enum call call)
 {
-    uint64_t c = some_capacity(r), n = some_length(r), i = position(r->length), v = value(), answer, most;
-    switch (call) {
-    case RANK: answer = strip_rank(c, n, WORDS(r), COUNTERS(r), v, i), most = i; break;
-    case SELECT: answer = strip_select(c, n, WORDS(r), COUNTERS(r), v, i), most = n - 1; break;
-    default: answer = strip_verify(c, n, WORDS(r), COUNTERS(r)), most = n; break;
+    struct handle h = some_handle(r);
+    uint64_t i = position(r->handle.length), v = value(), answer;
+    if (call == RANK) {
+        answer = told(call, strip_rank(OF_HANDLE(h), WORDS(r), COUNTERS(r), v, i));
+        expect(call, STRIP_REFUSED(answer) || answer <= i, "an answer out of its bounds");
+    } else if (call == SELECT) {
+        uint64_t number_of_v = v == 1 ? h.total : h.length - h.total;
+        i = one_in(4) ? near(number_of_v) : i;
+        answer = told(call, strip_select(OF_HANDLE(h), WORDS(r), COUNTERS(r), v, i));
+        if (!STRIP_REFUSED(answer) || answer == REFUSED(STRIP_UNFIT))
+            expect(call, (answer < h.length || STRIP_REFUSED(answer)) && i < number_of_v, "an answer past the last");
+        else if (answer == REFUSED(STRIP_NOT_FOUND))
+            expect(call, i >= number_of_v, "6 before the last");
+    } else {
+        answer = told(call, strip_verify(OF_HANDLE(h), WORDS(r), COUNTERS(r)));
+        expect(call, STRIP_REFUSED(answer) || answer == h.total, "another number of ones than the total");
     }
-    if (!STRIP_REFUSED(told(call, answer)))
-        expect(call, answer <= most, "an answer out of its bounds");
 }
 
 /* The sizes of a record of some capacity, and of a row of some length. */
 static void ask_sizes(const struct record *r)
 {
     uint64_t c = one_in(4) ? bad_capacities[below(COUNT_OF(bad_capacities))] : 512 * (1 + below(LARGEST / 512));
-    uint64_t n = one_in(2) ? position(LARGEST) : position(r->length);
+    uint64_t n = one_in(2) ? position(LARGEST) : position(r->handle.length);
     c = one_in(4) ? near(c) : c;
     expect(COUNTER_COUNT, told(COUNTER_COUNT, strip_counter_count(c)) == counter_count_answer(c), "another number");
     expect(RECORD_SIZE, told(RECORD_SIZE, image_record_size(n)) == record_size_answer(n), "another size");
@@ -457,7 +505,8 @@ static uint64_t drawn_capacity(void)
 /* A record: with as many words and counters as it needs, mostly; fitting, nearly so, or anything. */
 static struct record drawn_record(uint64_t capacity)
 {
-    struct record r = {capacity, one_in(4) ? capacity : below(capacity + 1), {0}, {0}};
+    struct record r = {{capacity, one_in(4) ? capacity : below(capacity + 1), 0}, {0}, {0}};
+    r.handle.total = below(r.handle.length + 1);
     r.words = lend(&words_memory, 8 * size_near(capacity / 64), at_end);
     r.counters = lend(&counters_memory, 4 * size_near(counter_count_of(capacity)), at_end);
     unsigned kind = below(4);
@@ -465,9 +514,10 @@ static struct record drawn_record(uint64_t capacity)
     bytes_drawn(r.counters.write, r.counters.length, below(4));
     if (kind == 0 || r.words.length != capacity / 8 || r.counters.length != 4 * counter_count_of(capacity))
         return r;
-    uint64_t out[5];
-    strip_truncate(capacity, r.length, WORDS_MUT(&r), COUNTERS_MUT(&r), r.length, out, 5);
+    uint64_t out[STRIP_OUT];
+    strip_truncate(OF_HANDLE(r.handle), WORDS_MUT(&r), COUNTERS_MUT(&r), r.handle.length, out, STRIP_OUT);
     note(TRUNCATE, out[0]);
+    r.handle = handle_told(out);
     if (kind == 1)
         r.counters.write[below(r.counters.length)] ^= 1 << below(8);
     return r;
@@ -477,7 +527,7 @@ static void record_calls(struct record *r)
 {
     static const enum call words[] = {GET, SUCCESSOR, PREDECESSOR}, reads[] = {RANK, SELECT, VERIFY};
     static const enum call changes[] = {PUSH, FLIP, PUSH, FLIP, FILL, TRUNCATE, CREATE};
-    unsigned many = r->capacity > 100000 ? 2 : 20;
+    unsigned many = r->handle.capacity > 100000 ? 2 : 20;
     for (unsigned k = 0; k < many; k++) {
         if (one_in(2))
             read_words(r, words[below(3)]);
@@ -494,19 +544,21 @@ static void record_calls(struct record *r)
 
 /* ---- two strips */
 
-#define STRIPS (x)->capacity, (x)->length, WORDS(x), (y)->capacity, (y)->length, WORDS(y)
+#define STRIPS OF_HANDLE((x)->handle), WORDS(x), OF_HANDLE((y)->handle), WORDS(y)
 
-/* A strip in a memory of its own: with as many words as it needs, mostly; its bits any, past the length too. */
+/* A strip in a memory of its own: with as many words as it needs, mostly; its total and its bits any, past the length
+ * too. */
 static struct record drawn_strip(struct memory *m, uint64_t capacity, uint64_t length)
 {
-    struct record r = {capacity, length, lend(m, 8 * size_near(capacity / 64), at_end), {0}};
+    struct handle h = {capacity, length, below(length + 1)};
+    struct record r = {h, lend(m, 8 * size_near(capacity / 64), at_end), {0}};
     bytes_drawn(r.words.write, r.words.length, below(4));
     return r;
 }
 
 static struct strip strip_of(const struct record *r)
 {
-    return (struct strip){r->capacity, r->length, r->words.write, r->words.length / 8};
+    return (struct strip){r->handle, r->words.write, r->words.length / 8};
 }
 
 static void hold_count(enum call call, const struct record *x, const struct record *y, uint64_t i, uint64_t wanted)
@@ -535,8 +587,8 @@ static void hold_span(const struct record *x, const struct record *y, uint64_t a
  * first's but for some. At times the first's own words, lent for both. */
 static struct record drawn_second(const struct record *first)
 {
-    uint64_t capacity = one_in(16) ? 512 * (1 + below(9)) : first->capacity;
-    uint64_t length = one_in(12) || first->length > capacity ? below(capacity + 1) : first->length;
+    uint64_t capacity = one_in(16) ? 512 * (1 + below(9)) : first->handle.capacity, n = first->handle.length;
+    uint64_t length = one_in(12) || n > capacity ? below(capacity + 1) : n;
     struct record second = drawn_strip(&second_memory, capacity, length);
     size_t size = second.words.length;
     if (one_in(3) && size == first->words.length && size > 0) {
@@ -554,12 +606,10 @@ static struct record drawn_second(const struct record *first)
 static void compare_strips(struct record x, struct record y)
 {
     static const enum call counts[] = {PAIR_BOTH, PAIR_EITHER, PAIR_ONLY_FIRST, PAIR_DIFFER};
-    uint64_t n = x.length, k = position(one_in(2) ? n : n / 2);
+    uint64_t n = x.handle.length, k = position(one_in(2) ? n : n / 2);
     uint64_t a = position(n), b = one_in(2) ? a + below(200) : position(n);
-    x.capacity = some_capacity(&x);
-    x.length = some_length(&x);
-    y.capacity = some_capacity(&y);
-    y.length = some_length(&y);
+    x.handle = some_handle(&x);
+    y.handle = some_handle(&y);
     struct strip first = strip_of(&x), second = strip_of(&y);
     for (int c = 0; c < 4; c++) {
         uint64_t i = position(n);
@@ -593,13 +643,11 @@ static void hold_waiting(enum call call, const struct record *x, const struct re
  * that every outcome has, or that some outcome has. */
 static void read_waiting(struct record x, struct record y)
 {
-    uint64_t n = x.length, i = position(n);
-    x.capacity = some_capacity(&x);
-    x.length = some_length(&x);
-    y.capacity = some_capacity(&y);
-    y.length = some_length(&y);
+    uint64_t n = x.handle.length, i = position(n);
+    x.handle = some_handle(&x);
+    y.handle = some_handle(&y);
     struct strip strip = strip_of(&x), waiting = strip_of(&y);
-    struct waiting_answer ones = waiting_count_answer(strip, waiting, x.length);
+    struct waiting_answer ones = waiting_count_answer(strip, waiting, x.handle.length);
     uint64_t k = one_in(2) ? position(one_in(2) ? n : n / 2) : near(ones.numbers[1 + below(2)]);
     hold_waiting(WAITING_COUNT, &x, &y, i, waiting_count_answer(strip, waiting, i));
     hold_waiting(WAITING_FIND, &x, &y, k, waiting_find_answer(strip, waiting, k));
@@ -683,18 +731,19 @@ static void freeze_wrote(const struct record *r, uint64_t n, uint64_t start, uin
 
 static void freeze(const struct record *r, uint64_t label)
 {
-    uint64_t c = some_capacity(r), n = some_length(r);
+    struct handle h = some_handle(r);
     uint64_t start = next_start(&judged), index = judged.count == 0 ? 0 : judged.rows[judged.count - 1].start;
-    uint64_t refused = handle_refused(c, n, r->words.length / 8);
-    uint64_t answer = refused != 0 ? refused : freeze_answer(&judged, image.length, n, label);
+    uint64_t refused = handle_refused(h, r->words.length / 8);
+    uint64_t answer = refused != 0 ? refused : freeze_answer(&judged, image.length, h.length, label);
     gaps(open_bytes);
     if (image.length < WIDE - PAGE)
         keep(&image_copy, image);
     uint8_t *at = lent_at(image, 1);
-    expect(FREEZE, told(FREEZE, image_freeze(c, n, WORDS(r), at, image.length, label)) == answer, "another answer");
+    expect(FREEZE, told(FREEZE, image_freeze(OF_HANDLE(h), WORDS(r), at, image.length, label)) == answer,
+           "another answer");
     settle();
     if (!STRIP_REFUSED(answer))
-        freeze_wrote(r, n, start, index);
+        freeze_wrote(r, h.length, start, index);
     else
         expect(FREEZE, image.length >= WIDE - PAGE || same(&image_copy, image), "refused, and changed the image");
 }
@@ -732,7 +781,8 @@ static void drawn_image(const struct record *r)
         clear();
     for (unsigned k = below(7); k > 0; k--) {
         struct record part = *r;
-        part.length = one_in(2) ? r->length : below(r->length + 1);
+        part.handle.length = one_in(2) ? r->handle.length : below(r->handle.length + 1);
+        part.handle.total = below(part.handle.length + 1);
         freeze(&part, one_in(6) ? label_near(&judged) : 1 + below(64));
     }
     for (unsigned k = one_in(2) ? 1 + below(3) : 0; k > 0; k--)
@@ -963,7 +1013,7 @@ static uint64_t first_argument(const struct record *r, enum opcode op)
     case OP_SELECT:
     case OP_SUCCESSOR:
     case OP_PREDECESSOR: return value();
-    default: return position(r->length);
+    default: return position(r->handle.length);
     }
 }
 
@@ -972,8 +1022,8 @@ static void drawn_call(const struct record *r, uint64_t call[4])
     enum opcode op = (enum opcode)below(OPCODES);
     call[0] = op + (one_in(4) ? OPCODES * below(UINT64_MAX / OPCODES) : 0);
     call[1] = first_argument(r, op);
-    call[2] = op == OP_ROW_RANK || op == OP_ROW_SELECT ? value() : position(r->length);
-    call[3] = op == OP_FILL ? value() : position(r->length);
+    call[2] = op == OP_ROW_RANK || op == OP_ROW_SELECT ? value() : position(r->handle.length);
+    call[3] = op == OP_FILL ? value() : position(r->handle.length);
 }
 
 static void keep_all(const struct record *r)
@@ -990,20 +1040,23 @@ static int same_record(const struct record *r)
 
 static void step(struct record *r)
 {
-    uint64_t call[4], c = some_capacity(r), n = some_length(r);
+    uint64_t call[4];
+    struct handle h = some_handle(r);
     drawn_call(r, call);
     struct out o = lend_out(STRIP_OUT);
     keep_all(r);
     gaps(open_bytes);
-    strip_step(call[0], call[1], call[2], call[3], c, n, WORDS_MUT(r), COUNTERS_MUT(r), lent_at(image, 1), image.length,
-               o.at, o.room);
+    strip_step(call[0], call[1], call[2], call[3], OF_HANDLE(h), WORDS_MUT(r), COUNTERS_MUT(r), lent_at(image, 1),
+               image.length, o.at, o.room);
     uint64_t *out = (uint64_t *)o.lent.write;
-    int accepted = told_out(STEP, o) && out[0] == 0;
+    int ran = told_out(STEP, o), accepted = ran && out[0] == 0;
     expect(STEP, (accepted && changes_record(call[0])) || same_record(r), "changed the record");
     expect(STEP, (accepted && changes_image(call[0])) || same(&image_copy, image), "changed the image");
     if (accepted && changes_record(call[0])) {
-        r->capacity = out[3];
-        r->length = out[4];
+        r->handle = handle_told(out);
+        expect(STEP, out[4] <= out[3] && out[5] <= out[4], "a wrong handle given back");
+    } else if (ran) {
+        expect(STEP, same_handle(handle_told(out), h), "another handle given back");
     }
     settle();
 }
@@ -1024,7 +1077,7 @@ static struct lent lend_script(const struct record *r, size_t number_of_calls)
 /* A whole script, with as many answers as it needs, more, or fewer: then nothing runs. */
 static void execute(struct record *r)
 {
-    size_t most = below(SCRIPT + 1), need = 3 + 3 * most;
+    size_t most = below(SCRIPT + 1), need = 4 + 3 * most;
     size_t room = one_in(8) ? below(need) : need + (one_in(4) ? below(5) : 0);
     struct lent script = lend_script(r, most), answers = lend(&out_memory, 8 * room, at_end);
     uint64_t *out = (uint64_t *)answers.write, c = some_capacity(r);
@@ -1047,10 +1100,10 @@ static void execute(struct record *r)
         expect(EXECUTE, out[k] == UNTOUCHED, "an answer that is none");
     expect(EXECUTE, ran || (same_record(r) && same(&image_copy, image)), "nothing run, and something changed");
     if (ran) {
+        r->handle = (struct handle){out[1], out[2], out[3]};
         expect(EXECUTE, out[1] / 8 == r->words.length && out[2] <= out[1], "a wrong handle");
+        expect(EXECUTE, out[3] == ones_of(r->words.write, r->words.length), "a wrong total");
         expect(EXECUTE, judged.sound, "no sound chain");
-        r->capacity = out[1];
-        r->length = out[2];
     }
 }
 
@@ -1059,22 +1112,23 @@ static void execute(struct record *r)
 /* A record of the largest capacity, frozen into an image that it fills. */
 static void largest_record(void)
 {
-    struct record r = {LARGEST, LARGEST, {0}, {0}};
+    struct record r = {{LARGEST, LARGEST, 0}, {0}, {0}};
     r.words = lend(&words_memory, LARGEST / 8, at_end);
     r.counters = lend(&counters_memory, 4 * MOST_COUNTERS, at_end);
     memset(r.words.write, 0x5a, r.words.length);
-    uint64_t out[5];
-    strip_truncate(r.capacity, r.length, WORDS_MUT(&r), COUNTERS_MUT(&r), r.length, out, 5);
+    uint64_t out[STRIP_OUT];
+    strip_truncate(OF_HANDLE(r.handle), WORDS_MUT(&r), COUNTERS_MUT(&r), r.handle.length, out, STRIP_OUT);
     note(TRUNCATE, out[0]);
-    expect(TRUNCATE, out[1] == LARGEST / 2, "another number of ones");
-    uint64_t last = told(SELECT, strip_select(r.capacity, r.length, WORDS(&r), COUNTERS(&r), 1, LARGEST / 2 - 1));
+    r.handle = handle_told(out);
+    expect(TRUNCATE, out[1] == LARGEST / 2 && out[5] == LARGEST / 2, "another number of ones");
+    uint64_t last = told(SELECT, strip_select(OF_HANDLE(r.handle), WORDS(&r), COUNTERS(&r), 1, LARGEST / 2 - 1));
     expect(SELECT, last == LARGEST - 2, "another position");
     for (unsigned k = 0; k < 6; k++) {
         read_record(&r, RANK);
         read_record(&r, SELECT);
         change(&r, FLIP);
     }
-    image = lend(&image_memory, 16 + record_size(r.length), at_end);
+    image = lend(&image_memory, 16 + record_size(r.handle.length), at_end);
     settle();
     clear();
     while (judged.count == 0)
@@ -1093,8 +1147,8 @@ static void largest_record(void)
 /* Two strips of the greatest length: all ones, and none. */
 static void largest_strips(void)
 {
-    struct record ones = {LARGEST, LARGEST, lend(&words_memory, LARGEST / 8, at_end), {0}};
-    struct record none = {LARGEST, LARGEST, lend(&second_memory, LARGEST / 8, at_end), {0}};
+    struct record ones = {{LARGEST, LARGEST, LARGEST}, lend(&words_memory, LARGEST / 8, at_end), {0}};
+    struct record none = {{LARGEST, LARGEST, 0}, lend(&second_memory, LARGEST / 8, at_end), {0}};
     memset(ones.words.write, 255, ones.words.length);
     memset(none.words.write, 0, none.words.length);
     hold_count(PAIR_BOTH, &ones, &none, LARGEST, 0);
@@ -1113,8 +1167,8 @@ static void largest_strips(void)
 /* A strip of the greatest length, all ones: none waits; and one without, of which all wait. */
 static void largest_waiting(void)
 {
-    struct record ones = {LARGEST, LARGEST, lend(&words_memory, LARGEST / 8, at_end), {0}};
-    struct record none = {LARGEST, LARGEST, lend(&second_memory, LARGEST / 8, at_end), {0}};
+    struct record ones = {{LARGEST, LARGEST, LARGEST}, lend(&words_memory, LARGEST / 8, at_end), {0}};
+    struct record none = {{LARGEST, LARGEST, 0}, lend(&second_memory, LARGEST / 8, at_end), {0}};
     memset(ones.words.write, 255, ones.words.length);
     memset(none.words.write, 0, none.words.length);
     const uint64_t last = LARGEST - 1;
@@ -1130,12 +1184,13 @@ static void largest_waiting(void)
 /* A strip of the greatest length, with ones in its last strokes alone. */
 static void largest_burst(void)
 {
-    struct record r = {LARGEST, LARGEST, lend(&words_memory, LARGEST / 8, at_end), {0}};
+    struct record r = {{LARGEST, LARGEST, 0}, lend(&words_memory, LARGEST / 8, at_end), {0}};
     memset(r.words.write, 0, r.words.length);
     memset(r.words.write + r.words.length - WIDEST / 8, 255, WIDEST / 8);
     uint64_t last = LARGEST - WIDEST;
-    expect(BURST, told(BURST, strip_burst(LARGEST, LARGEST, WORDS(&r), WIDEST, WIDEST)) == last, "another start");
-    expect(BURST, told(BURST, strip_burst(LARGEST, LARGEST - 1, WORDS(&r), WIDEST, WIDEST)) == REFUSED(STRIP_NOT_FOUND),
+    expect(BURST, told(BURST, strip_burst(OF_HANDLE(r.handle), WORDS(&r), WIDEST, WIDEST)) == last, "another start");
+    r.handle.length--;
+    expect(BURST, told(BURST, strip_burst(OF_HANDLE(r.handle), WORDS(&r), WIDEST, WIDEST)) == REFUSED(STRIP_NOT_FOUND),
            "a burst past the length");
     give_back(r.words);
 }

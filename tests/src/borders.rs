@@ -1,4 +1,5 @@
 //! The borders that the tests walk. tests/common/borders.h has those of the C tests.
+use crate::Handle;
 
 /// The largest capacity, which is the greatest length of a row too.
 pub const LARGEST: u64 = 134_217_728;
@@ -75,6 +76,26 @@ pub const LABELS: [u64; 8] = [0, 1, 3, 64, 65, WIDE - 1, WIDE + 3, u64::MAX];
 
 /// Sizes of an image around the header, the first unit and the first record.
 pub const SIZES: [usize; 9] = [0, 1, 15, 16, 17, 31, 32, 559, 560];
+
+/// Handles that are refused: capacities not allowed, lengths above the capacity, totals above the length.
+pub fn bad_handles() -> Vec<Handle> {
+    let mut list = BAD_CAPACITIES.map(|c| [0, 1, 512, c, u64::MAX].map(|n| Handle::new(c, n))).concat();
+    for c in [512, 1024, LARGEST] {
+        list.extend([c + 1, c + 512].into_iter().chain(FAR).map(|n| Handle::new(c, n)));
+        for h in [0, 1, c - 1, c].map(|n| Handle::new(c, n)) {
+            list.extend([h.length + 1, c + 1].into_iter().chain(FAR).map(|total| h.with(total)));
+        }
+    }
+    list
+}
+
+/// Totals good and bad under a capacity and a length of which so many are ones: this number, none, all, beside these, the
+/// capacity, and numbers far past it, among them some that would be good if they were cut to 32 bits.
+pub fn totals(h: Handle, ones: u64) -> Vec<u64> {
+    let mut list = [ones, 0, h.length].map(beside).concat();
+    list.extend([h.length / 2, h.capacity, h.capacity + 1, WIDE, WIDE + ones, 1 << 63]);
+    list
+}
 
 /// A number and its two neighbours.
 pub fn beside(number: u64) -> [u64; 3] {

@@ -30,7 +30,7 @@ impl Burst {
     /// # Safety
     /// The pointer is to so many words, which live through the call; of no words it may be null.
     pub unsafe fn ask(self, (h, words, count): Pointers) -> Answer {
-        answer(strip_burst(h.capacity, h.length, words, count, self.w, self.m))
+        answer(strip_burst(h.capacity, h.length, h.total, words, count, self.w, self.m))
     }
 
     /// Its refusal, or that a start is owed: of a handle and the counts of the ones of all words that are lent.

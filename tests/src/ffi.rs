@@ -23,6 +23,7 @@ extern "C" {
     pub fn strip_push(
         capacity: u64,
         length: u64,
+        total: u64,
         words: *mut u64,
         words_len: usize,
         counters: *mut u32,
@@ -34,6 +35,7 @@ extern "C" {
     pub fn strip_flip(
         capacity: u64,
         length: u64,
+        total: u64,
         words: *mut u64,
         words_len: usize,
         counters: *mut u32,
@@ -45,6 +47,7 @@ extern "C" {
     pub fn strip_fill(
         capacity: u64,
         length: u64,
+        total: u64,
         words: *mut u64,
         words_len: usize,
         counters: *mut u32,
@@ -58,6 +61,7 @@ extern "C" {
     pub fn strip_truncate(
         capacity: u64,
         length: u64,
+        total: u64,
         words: *mut u64,
         words_len: usize,
         counters: *mut u32,
@@ -66,10 +70,11 @@ extern "C" {
         out: *mut u64,
         out_len: usize,
     );
-    pub fn strip_get(capacity: u64, length: u64, words: *const u64, words_len: usize, i: u64) -> u64;
+    pub fn strip_get(capacity: u64, length: u64, total: u64, words: *const u64, words_len: usize, i: u64) -> u64;
     pub fn strip_rank(
         capacity: u64,
         length: u64,
+        total: u64,
         words: *const u64,
         words_len: usize,
         counters: *const u32,
@@ -80,6 +85,7 @@ extern "C" {
     pub fn strip_select(
         capacity: u64,
         length: u64,
+        total: u64,
         words: *const u64,
         words_len: usize,
         counters: *const u32,
@@ -87,12 +93,37 @@ extern "C" {
         v: u64,
         k: u64,
     ) -> u64;
-    pub fn strip_successor(capacity: u64, length: u64, words: *const u64, words_len: usize, v: u64, i: u64) -> u64;
-    pub fn strip_predecessor(capacity: u64, length: u64, words: *const u64, words_len: usize, v: u64, i: u64) -> u64;
-    pub fn strip_burst(capacity: u64, length: u64, words: *const u64, words_len: usize, w: u64, m: u64) -> u64;
+    pub fn strip_successor(
+        capacity: u64,
+        length: u64,
+        total: u64,
+        words: *const u64,
+        words_len: usize,
+        v: u64,
+        i: u64,
+    ) -> u64;
+    pub fn strip_predecessor(
+        capacity: u64,
+        length: u64,
+        total: u64,
+        words: *const u64,
+        words_len: usize,
+        v: u64,
+        i: u64,
+    ) -> u64;
+    pub fn strip_burst(
+        capacity: u64,
+        length: u64,
+        total: u64,
+        words: *const u64,
+        words_len: usize,
+        w: u64,
+        m: u64,
+    ) -> u64;
     pub fn strip_verify(
         capacity: u64,
         length: u64,
+        total: u64,
         words: *const u64,
         words_len: usize,
         counters: *const u32,
@@ -101,10 +132,12 @@ extern "C" {
     pub fn strip_pair_both(
         first_capacity: u64,
         first_length: u64,
+        first_total: u64,
         first: *const u64,
         first_len: usize,
         second_capacity: u64,
         second_length: u64,
+        second_total: u64,
         second: *const u64,
         second_len: usize,
         i: u64,
@@ -112,10 +145,12 @@ extern "C" {
     pub fn strip_pair_either(
         first_capacity: u64,
         first_length: u64,
+        first_total: u64,
         first: *const u64,
         first_len: usize,
         second_capacity: u64,
         second_length: u64,
+        second_total: u64,
         second: *const u64,
         second_len: usize,
         i: u64,
@@ -123,10 +158,12 @@ extern "C" {
     pub fn strip_pair_only_first(
         first_capacity: u64,
         first_length: u64,
+        first_total: u64,
         first: *const u64,
         first_len: usize,
         second_capacity: u64,
         second_length: u64,
+        second_total: u64,
         second: *const u64,
         second_len: usize,
         i: u64,
@@ -134,10 +171,12 @@ extern "C" {
     pub fn strip_pair_differ(
         first_capacity: u64,
         first_length: u64,
+        first_total: u64,
         first: *const u64,
         first_len: usize,
         second_capacity: u64,
         second_length: u64,
+        second_total: u64,
         second: *const u64,
         second_len: usize,
         i: u64,
@@ -145,10 +184,12 @@ extern "C" {
     pub fn strip_pair_find(
         first_capacity: u64,
         first_length: u64,
+        first_total: u64,
         first: *const u64,
         first_len: usize,
         second_capacity: u64,
         second_length: u64,
+        second_total: u64,
         second: *const u64,
         second_len: usize,
         k: u64,
@@ -156,10 +197,12 @@ extern "C" {
     pub fn strip_pair_span(
         first_capacity: u64,
         first_length: u64,
+        first_total: u64,
         first: *const u64,
         first_len: usize,
         second_capacity: u64,
         second_length: u64,
+        second_total: u64,
         second: *const u64,
         second_len: usize,
         a: u64,
@@ -168,10 +211,12 @@ extern "C" {
     pub fn strip_waiting_count(
         capacity: u64,
         length: u64,
+        total: u64,
         words: *const u64,
         words_len: usize,
         waiting_capacity: u64,
         waiting_length: u64,
+        waiting_total: u64,
         waiting: *const u64,
         waiting_len: usize,
         i: u64,
@@ -181,10 +226,12 @@ extern "C" {
     pub fn strip_waiting_find(
         capacity: u64,
         length: u64,
+        total: u64,
         words: *const u64,
         words_len: usize,
         waiting_capacity: u64,
         waiting_length: u64,
+        waiting_total: u64,
         waiting: *const u64,
         waiting_len: usize,
         k: u64,
@@ -196,6 +243,7 @@ extern "C" {
     pub fn image_freeze(
         capacity: u64,
         length: u64,
+        total: u64,
         words: *const u64,
         words_len: usize,
         image: *mut u8,
@@ -241,6 +289,7 @@ extern "C" {
         z: u64,
         capacity: u64,
         length: u64,
+        total: u64,
         words: *mut u64,
         words_len: usize,
         counters: *mut u32,

@@ -57,7 +57,9 @@ pub fn freeze(h: Handle, words: &[u64], image: &mut [u8], label: u64) -> Answer 
 /// # Safety
 /// The pointer is to so many words, which live through the call.
 pub unsafe fn freeze_from((h, words, count): Pointers, image: &mut [u8], label: u64) -> Answer {
-    change(image, |bytes, size| unsafe { image_freeze(h.capacity, h.length, words, count, bytes, size, label) })
+    change(image, |bytes, size| unsafe {
+        image_freeze(h.capacity, h.length, h.total, words, count, bytes, size, label)
+    })
 }
 
 /// merge

@@ -28,11 +28,38 @@ pub mod waiting;
 use ffi::{strip_get, strip_predecessor, strip_select_in_word, strip_successor};
 use refusal::{answer, Answer};
 
-/// A handle, passed by value.
+/// A handle, passed by value. The total is the number of ones.
 #[derive(Clone, Copy, Debug, PartialEq, Eq)]
 pub struct Handle {
     pub capacity: u64,
     pub length: u64,
+    pub total: u64,
+}
+
+impl Handle {
+    /// With a total of 0. The calls on words alone answer alike under every total up to the length.
+    pub const fn new(capacity: u64, length: u64) -> Handle {
+        Handle { capacity, length, total: 0 }
+    }
+
+    /// The handle among the numbers that a change writes.
+    pub fn told(out: &[u64]) -> Handle {
+        Handle { capacity: out[3], length: out[4], total: out[5] }
+    }
+
+    /// The same with another total.
+    pub fn with(self, total: u64) -> Handle {
+        Handle { total, ..self }
+    }
+
+    /// The number of v that length and total give.
+    pub fn number_of(self, v: bool) -> u64 {
+        if v {
+            self.total
+        } else {
+            self.length - self.total
+        }
+    }
 }
 
 /// Words lent to the calls, between two guards. Each call asserts that it left all of them as they were.
@@ -59,7 +86,7 @@ impl Lent {
     pub fn get(&mut self, h: Handle, i: u64) -> Answer {
         let (words, count) = self.lend();
         // SAFETY: `words` points to `count` words, which live through the call.
-        let told = unsafe { strip_get(h.capacity, h.length, words, count, i) };
+        let told = unsafe { strip_get(h.capacity, h.length, h.total, words, count, i) };
         self.unchanged();
         answer(told)
     }
@@ -68,7 +95,7 @@ impl Lent {
     pub fn successor(&mut self, h: Handle, v: u64, i: u64) -> Answer {
         let (words, count) = self.lend();
         // SAFETY: as in `get`.
-        let told = unsafe { strip_successor(h.capacity, h.length, words, count, v, i) };
+        let told = unsafe { strip_successor(h.capacity, h.length, h.total, words, count, v, i) };
         self.unchanged();
         answer(told)
     }
@@ -77,7 +104,7 @@ impl Lent {
     pub fn predecessor(&mut self, h: Handle, v: u64, i: u64) -> Answer {
         let (words, count) = self.lend();
         // SAFETY: as in `get`.
-        let told = unsafe { strip_predecessor(h.capacity, h.length, words, count, v, i) };
+        let told = unsafe { strip_predecessor(h.capacity, h.length, h.total, words, count, v, i) };
         self.unchanged();
         answer(told)
     }

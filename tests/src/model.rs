@@ -56,7 +56,7 @@ fn allowed(capacity: u64) -> bool {
 
 /// 1, 2, and 3 where counters are taken.
 pub fn check(h: Handle, words: usize, counters: Option<usize>) -> Result<(), Refusal> {
-    BadHandle.when(!allowed(h.capacity) || h.length > h.capacity)?;
+    BadHandle.when(!allowed(h.capacity) || h.length > h.capacity || h.total > h.length)?;
     WordCount.when(words != word_count(h.capacity))?;
     CounterCount.when(counters.is_some_and(|number| number != counter_count(h.capacity)))
 }
@@ -379,22 +379,30 @@ fn changes(capacity: u64, p: u64) -> u64 {
 
 // ---- the strip
 
-/// A strip, position 0 first, under a capacity: what a fitting record holds.
+/// A strip, position 0 first, under a capacity: what a fitting record holds. The total is set from the bits, or moved by one
+/// with the bit that changes.
 #[derive(Clone)]
 pub struct Strip {
     pub capacity: u64,
-    pub bits: Vec<bool>,
+    bits: Vec<bool>,
+    total: u64,
 }
 
 impl Strip {
     pub fn new(capacity: u64, bits: Vec<bool>) -> Strip {
-        Strip { capacity, bits }
+        let total = number_of(&bits, true);
+        Strip { capacity, bits, total }
     }
 
     pub fn handle(&self) -> Handle {
-        Handle { capacity: self.capacity, length: length(&self.bits) }
+        Handle { capacity: self.capacity, length: length(&self.bits), total: self.total }
     }
 
+    pub fn bits(&self) -> &[bool] {
+        &self.bits
+    }
+
+    /// The ones, counted anew.
     pub fn ones(&self) -> u64 {
         number_of(&self.bits, true)
     }
@@ -443,7 +451,7 @@ impl Strip {
 
     /// lay(capacity): 1, 2, 3; the strip is empty.
     fn create(&mut self, lent: (usize, usize), capacity: u64) -> Values {
-        check(Handle { capacity, length: 0 }, lent.0, Some(lent.1))?;
+        check(Handle::new(capacity, 0), lent.0, Some(lent.1))?;
         *self = Strip::new(capacity, Vec::new());
         Ok((counter_count(capacity) as u64, 0))
     }
@@ -454,6 +462,7 @@ impl Strip {
         let p = length(&self.bits);
         Full.when(p == self.capacity)?;
         self.bits.push(bit);
+        self.total += v;
         Ok((p, if bit { changes(self.capacity, p) } else { 0 }))
     }
 
@@ -462,6 +471,7 @@ impl Strip {
         Position.when(i >= length(&self.bits))?;
         let bit = &mut self.bits[i as usize];
         *bit = !*bit;
+        self.total = if *bit { self.total + 1 } else { self.total - 1 };
         Ok((u64::from(*bit), changes(self.capacity, i)))
     }
 
@@ -471,13 +481,15 @@ impl Strip {
         Span.when(a > b)?;
         Position.when(b > length(&self.bits))?;
         self.bits[a as usize..b as usize].fill(v);
-        Ok((self.ones(), 0))
+        self.total = self.ones();
+        Ok((self.total, 0))
     }
 
     /// cut(n): 4; keeps the first n.
     fn truncate(&mut self, n: u64) -> Values {
         Position.when(n > length(&self.bits))?;
         self.bits.truncate(n as usize);
-        Ok((self.ones(), 0))
+        self.total = self.ones();
+        Ok((self.total, 0))
     }
 }

@@ -81,15 +81,15 @@ impl Comparison {
     /// # Safety
     /// Each pointer is to so many words, which live through the call; of no words it may be null.
     pub unsafe fn ask(self, first: (Handle, *const u64, usize), second: (Handle, *const u64, usize)) -> Signed {
-        let (Handle { capacity: c, length: n }, xs, nx) = first;
-        let (Handle { capacity: d, length: m }, ys, ny) = second;
+        let (Handle { capacity: c, length: n, total: t }, xs, nx) = first;
+        let (Handle { capacity: d, length: m, total: u }, ys, ny) = second;
         let told = match self {
-            Both(i) => strip_pair_both(c, n, xs, nx, d, m, ys, ny, i),
-            Either(i) => strip_pair_either(c, n, xs, nx, d, m, ys, ny, i),
-            OnlyFirst(i) => strip_pair_only_first(c, n, xs, nx, d, m, ys, ny, i),
-            Differ(i) => strip_pair_differ(c, n, xs, nx, d, m, ys, ny, i),
-            Find(k) => strip_pair_find(c, n, xs, nx, d, m, ys, ny, k),
-            Span(a, b) => return signed(strip_pair_span(c, n, xs, nx, d, m, ys, ny, a, b)),
+            Both(i) => strip_pair_both(c, n, t, xs, nx, d, m, u, ys, ny, i),
+            Either(i) => strip_pair_either(c, n, t, xs, nx, d, m, u, ys, ny, i),
+            OnlyFirst(i) => strip_pair_only_first(c, n, t, xs, nx, d, m, u, ys, ny, i),
+            Differ(i) => strip_pair_differ(c, n, t, xs, nx, d, m, u, ys, ny, i),
+            Find(k) => strip_pair_find(c, n, t, xs, nx, d, m, u, ys, ny, k),
+            Span(a, b) => return signed(strip_pair_span(c, n, t, xs, nx, d, m, u, ys, ny, a, b)),
         };
         answer(told).map(|value| value as i64)
     }

@@ -23,7 +23,7 @@ pub struct Machine {
 impl Machine {
     /// The opening lay and clear, in either order: the refusals of the first, then those of the second.
     pub fn open(capacity: u64, clear_first: bool, lent: (usize, usize), image: &[u8]) -> Result<Machine, Refusal> {
-        let laid = model::check(Handle { capacity, length: 0 }, lent.0, Some(lent.1));
+        let laid = model::check(Handle::new(capacity, 0), lent.0, Some(lent.1));
         let cleared = layout::check_size(image.len());
         if clear_first {
             cleared.and(laid)?;
@@ -31,6 +31,11 @@ impl Machine {
             laid.and(cleared)?;
         }
         Ok(Machine { strip: Strip::new(capacity, Vec::new()), shelf: Vec::new(), base: image.to_vec(), lent })
+    }
+
+    /// C, the length of S and the ones of S.
+    pub fn handle(&self) -> Handle {
+        self.strip.handle().with(self.strip.ones())
     }
 
     /// One call.
@@ -65,7 +70,7 @@ impl Machine {
         LabelPresent.when(self.shelf.iter().any(|row| row.0 == label))?;
         let start = 16 + self.shelf.iter().map(|row| layout::size(length(&row.1))).sum::<usize>();
         NoRoom.when(start + layout::size(self.strip.handle().length) > self.base.len())?;
-        self.shelf.push((label, self.strip.bits.clone()));
+        self.shelf.push((label, self.strip.bits().to_vec()));
         Ok((start as u64 / 16, 0))
     }
 

@@ -64,7 +64,7 @@ pub struct Report {
 /// What `out` holds before a call.
 pub const UNTOUCHED: u64 = 0x5bd1_e995_ffff_0000;
 
-/// Words and counters. Each call asserts that it wrote to nothing beside them and the first five numbers of `out`.
+/// Words and counters. Each call asserts that it wrote to nothing beside them and the first six numbers of `out`.
 pub struct Record {
     words: Guarded<u64>,
     counters: Guarded<u32>,
@@ -99,13 +99,13 @@ impl Record {
     /// Makes the change, with an `out` of eight numbers.
     pub fn change(&mut self, h: Handle, change: Change) -> Report {
         let out = self.run(h, change, 8);
-        assert!(out[5..].iter().all(|number| *number == UNTOUCHED), "{change:?} wrote past the five numbers");
-        Report { told: values(&out), handle: Handle { capacity: out[3], length: out[4] } }
+        assert!(out[6..].iter().all(|number| *number == UNTOUCHED), "{change:?} wrote past the six numbers");
+        Report { told: values(&out), handle: Handle::told(&out) }
     }
 
-    /// Makes the call with an `out` of fewer than five numbers, and asserts that it wrote nothing there.
+    /// Makes the call with an `out` of fewer than six numbers, and asserts that it wrote nothing there.
     pub fn idle(&mut self, h: Handle, change: Change, room: usize) {
-        assert!(room < 5);
+        assert!(room < 6);
         let out = self.run(h, change, room);
         assert!(out.iter().all(|number| *number == UNTOUCHED), "{change:?} wrote to {room} numbers");
     }
@@ -113,15 +113,15 @@ impl Record {
     fn run(&mut self, h: Handle, change: Change, room: usize) -> Vec<u64> {
         let mut report = Guarded::new(&vec![UNTOUCHED; room], UNTOUCHED);
         let ((words, nw), (counters, nc), (out, no)) = (self.words.lend(), self.counters.lend(), report.lend());
-        let Handle { capacity: c, length: n } = h;
+        let Handle { capacity: c, length: n, total: t } = h;
         // SAFETY: the pointers are to nw words, nc counters and no numbers, which live through the call and do not meet.
         unsafe {
             match change {
                 Change::Create(c) => strip_create(c, words, nw, counters, nc, out, no),
-                Change::Push(v) => strip_push(c, n, words, nw, counters, nc, v, out, no),
-                Change::Flip(i) => strip_flip(c, n, words, nw, counters, nc, i, out, no),
-                Change::Fill(a, b, v) => strip_fill(c, n, words, nw, counters, nc, a, b, v, out, no),
-                Change::Truncate(m) => strip_truncate(c, n, words, nw, counters, nc, m, out, no),
+                Change::Push(v) => strip_push(c, n, t, words, nw, counters, nc, v, out, no),
+                Change::Flip(i) => strip_flip(c, n, t, words, nw, counters, nc, i, out, no),
+                Change::Fill(a, b, v) => strip_fill(c, n, t, words, nw, counters, nc, a, b, v, out, no),
+                Change::Truncate(m) => strip_truncate(c, n, t, words, nw, counters, nc, m, out, no),
             }
         }
         assert!(self.words.intact() && self.counters.intact() && report.intact(), "{change:?} wrote to a guard");
@@ -131,13 +131,13 @@ impl Record {
     /// Makes the reading.
     pub fn read(&mut self, h: Handle, reading: Reading) -> Answer {
         let ((words, nw), (counters, nc)) = (self.words.lend(), self.counters.lend());
-        let Handle { capacity: c, length: n } = h;
+        let Handle { capacity: c, length: n, total: t } = h;
         // SAFETY: as in `run`.
         let told = unsafe {
             match reading {
-                Reading::Rank(v, i) => strip_rank(c, n, words, nw, counters, nc, v, i),
-                Reading::Select(v, k) => strip_select(c, n, words, nw, counters, nc, v, k),
-                Reading::Verify => strip_verify(c, n, words, nw, counters, nc),
+                Reading::Rank(v, i) => strip_rank(c, n, t, words, nw, counters, nc, v, i),
+                Reading::Select(v, k) => strip_select(c, n, t, words, nw, counters, nc, v, k),
+                Reading::Verify => strip_verify(c, n, t, words, nw, counters, nc),
             }
         };
         assert!(self.words.intact() && self.counters.intact(), "{reading:?} wrote to a guard");

@@ -4,7 +4,7 @@ use Refusal::*;
 /// A refusal of the documents; the number is theirs.
 #[derive(Clone, Copy, Debug, PartialEq, Eq, PartialOrd, Ord)]
 pub enum Refusal {
-    /// capacity not allowed, or length above capacity
+    /// capacity not allowed, length above capacity, or total above length
     BadHandle = 1,
     /// words not exactly capacity / 64
     WordCount = 2,

@@ -52,8 +52,8 @@ impl Buffers {
         let mut told = Guarded::new(&vec![UNTOUCHED; room], UNTOUCHED);
         let ((words, nw), (counters, nc), (image, ni)) = (self.words.lend(), self.counters.lend(), self.image.lend());
         let (out, no) = told.lend();
-        let (Call { op, x, y, z }, Handle { capacity: c, length: n }) = (call, h);
-        unsafe { strip_step(op, x, y, z, c, n, words, nw, counters, nc, image, ni, out, no) };
+        let (Call { op, x, y, z }, Handle { capacity: c, length: n, total: t }) = (call, h);
+        unsafe { strip_step(op, x, y, z, c, n, t, words, nw, counters, nc, image, ni, out, no) };
         assert!(self.intact() && told.intact(), "{call:?} wrote to a guard");
         told.numbers().to_vec()
     }

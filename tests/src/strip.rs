@@ -1,8 +1,11 @@
 //! Strips as the calls on two of them are lent them: right, or with faults.
-use crate::borders::{BAD_CAPACITIES, LARGEST, WIDE};
+use crate::borders::{totals, BAD_CAPACITIES, LARGEST, WIDE};
 use crate::model::{self, word_count};
 use crate::random::Random;
 use crate::{Handle, Lent};
+
+/// The ways in which a handle can be bad.
+pub const HANDLE_FAULTS: usize = 8;
 
 /// The bits of all words that are lent, the words, and the handle under which they are read.
 pub struct Strip {
@@ -14,7 +17,7 @@ pub struct Strip {
 impl Strip {
     /// Of as many words as the capacity has.
     pub fn new(length: u64, bits: Vec<bool>) -> Strip {
-        Strip::under(Handle { capacity: model::length(&bits), length }, bits)
+        Strip::under(Handle::new(model::length(&bits), length), bits)
     }
 
     /// Under any handle.
@@ -25,12 +28,12 @@ impl Strip {
 
     /// These words.
     pub fn from_words(capacity: u64, length: u64, words: &[u64]) -> Strip {
-        Strip { handle: Handle { capacity, length }, bits: model::bits_of(words), lent: Lent::new(words) }
+        Strip { handle: Handle::new(capacity, length), bits: model::bits_of(words), lent: Lent::new(words) }
     }
 
     /// So many words, all of the same bits, under any handle.
     pub fn of_words(capacity: u64, length: u64, count: usize, bit: bool) -> Strip {
-        Strip::under(Handle { capacity, length }, vec![bit; 64 * count])
+        Strip::under(Handle::new(capacity, length), vec![bit; 64 * count])
     }
 
     /// As many words as the capacity has, all of the same bits.
@@ -46,28 +49,45 @@ impl Strip {
         Strip::new(length, bits)
     }
 
+    /// Totals good and bad under its handle.
+    pub fn totals(&self) -> Vec<u64> {
+        totals(self.handle, model::number_of(self.strokes(), true))
+    }
+
     /// The bits below the length.
     pub fn strokes(&self) -> &[bool] {
         &self.bits[..self.handle.length as usize]
     }
 
-    /// A strip with faults: how the handle may be bad, and the words too few, too many or none.
+    /// A strip with faults: how the handle may be bad, one way of all, and the words too few, too many or none.
     pub fn faulty(good: Handle, handle: Option<usize>, words: Option<usize>, bit: bool) -> Strip {
-        let Handle { capacity: c, length: n } = good;
-        let list = [(c, c + 1), (c - 1, n), (0, 0), (WIDE + c, n), (LARGEST + 512, n), (c, u64::MAX)];
-        let (capacity, length) = handle.map_or((c, n), |way| list[way % list.len()]);
+        let Handle { capacity: c, length: n, total: t } = good;
+        let list = [
+            (c, c + 1, t),
+            (c - 1, n, t),
+            (0, 0, 0),
+            (WIDE + c, n, t),
+            (LARGEST + 512, n, t),
+            (c, u64::MAX, t),
+            (c, n, n + 1),
+            (c, n, u64::MAX),
+        ];
+        assert_eq!(list.len(), HANDLE_FAULTS);
+        let (capacity, length, total) = handle.map_or((c, n, t), |way| list[way]);
         let needed = word_count(c);
         let count = words.map_or(needed, |way| [needed - 1, needed + 1, 0][way % 3]);
-        Strip::of_words(capacity, length, count, bit)
+        Strip::under(Handle { capacity, length, total }, vec![bit; 64 * count])
     }
 
-    /// The strip as it is, or with another handle, another number of words, or under another capacity or length.
+    /// The strip under any total, as it is, or with another handle, another number of words, or under another capacity or
+    /// length.
     pub fn altered(self, random: &mut Random) -> Strip {
-        let Handle { capacity, length } = self.handle;
+        let Handle { capacity, length, .. } = self.handle;
         let mut bits = self.bits;
-        let h = match random.below(40) {
-            0 => Handle { capacity: BAD_CAPACITIES[random.below(BAD_CAPACITIES.len())], length },
-            1 => Handle { capacity, length: capacity + 1 + random.number_below(3) * WIDE },
+        let way = random.below(40);
+        let h = match way {
+            0 => Handle::new(BAD_CAPACITIES[random.below(BAD_CAPACITIES.len())], length),
+            1 => Handle::new(capacity, capacity + 1 + random.number_below(3) * WIDE),
             2 | 3 => {
                 let count = [bits.len() - 64, bits.len() + 64, 0, 2 * bits.len()][random.below(4)];
                 bits.resize(count, true);
@@ -75,13 +95,21 @@ impl Strip {
             }
             4 => {
                 bits.resize(bits.len() + 512, random.below(2) == 0);
-                Handle { capacity: capacity + 512, length }
+                Handle::new(capacity + 512, length)
             }
-            5 => Handle { capacity, length: random.number_below(capacity + 1) },
+            5 => Handle::new(capacity, random.number_below(capacity + 1)),
             _ => self.handle,
         };
-        Strip::under(h, bits)
+        let total =
+            if way == 6 { h.length + 1 + random.number_below(3) * WIDE } else { random.number_below(h.length + 1) };
+        Strip::under(h.with(total), bits)
     }
+}
+
+/// Each total to try of one strip with each of the other.
+pub fn both_totals(first: &Strip, second: &Strip) -> Vec<(u64, u64)> {
+    let others = second.totals();
+    first.totals().into_iter().flat_map(|total| others.iter().map(move |other| (total, *other))).collect()
 }
 
 /// Both handles and how many words are lent, for messages.

@@ -95,14 +95,14 @@ impl Waiting {
     /// What it leaves in an `out` of so many numbers, untouched before; where they are none, in a null one too. Asserts that it
     /// wrote to nothing beside them.
     unsafe fn write(self, strip: Pointers, waiting: Pointers, room: usize) -> Vec<u64> {
-        let (Handle { capacity: c, length: n }, xs, nx) = strip;
-        let (Handle { capacity: d, length: m }, ys, ny) = waiting;
+        let (Handle { capacity: c, length: n, total: t }, xs, nx) = strip;
+        let (Handle { capacity: d, length: m, total: u }, ys, ny) = waiting;
         let mut report = Guarded::new(&vec![UNTOUCHED; room], UNTOUCHED);
         let (out, no) = report.lend();
         for out in if room == 0 { vec![out, null_mut()] } else { vec![out] } {
             match self {
-                Count(i) => strip_waiting_count(c, n, xs, nx, d, m, ys, ny, i, out, no),
-                Find(k) => strip_waiting_find(c, n, xs, nx, d, m, ys, ny, k, out, no),
+                Count(i) => strip_waiting_count(c, n, t, xs, nx, d, m, u, ys, ny, i, out, no),
+                Find(k) => strip_waiting_find(c, n, t, xs, nx, d, m, u, ys, ny, k, out, no),
             }
         }
         assert!(report.intact(), "{self:?} wrote beside {room} numbers");

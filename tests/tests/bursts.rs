@@ -1,13 +1,13 @@
 //! The call that seeks a burst, against the plain model and against answers worked out by hand. Any start that qualifies is
 //! right; one start is asked for only where no other qualifies.
 use std::ptr::null;
-use strip_tests::borders::{beside, lengths, BAD_CAPACITIES, FAR, LARGEST, ONE_LEVEL, SMALL, TWO_LEVELS, WIDE, WIDEST};
+use strip_tests::borders::{self, beside, lengths, FAR, LARGEST, ONE_LEVEL, SMALL, TWO_LEVELS, WIDE, WIDEST};
 use strip_tests::burst::Burst;
 use strip_tests::cases::{at_call, Cases};
 use strip_tests::model::{self, word_count};
 use strip_tests::random::Random;
 use strip_tests::refusal::{Answer, Refusal};
-use strip_tests::strip::Strip;
+use strip_tests::strip::{Strip, HANDLE_FAULTS};
 use strip_tests::tally::Tally;
 use strip_tests::{draw, Handle, Lent};
 use Refusal::{BadHandle, BadWindow, NotFound, WordCount};
@@ -239,7 +239,7 @@ fn widest_windows() {
     let starts = (0..130).chain((1..16).map(|n| 4096 * n)).chain(last - 130..=last);
     let mut words = vec![0; word_count(capacity)];
     for s in starts {
-        let h = Handle { capacity, length };
+        let h = Handle::new(capacity, length);
         let expect = |words: &[u64], m: u64, wanted: Answer| {
             let told = Burst { w: WIDEST, m }.told(h, &mut Lent::new(words));
             assert_eq!(told, wanted, "m {m}, the window at {s}");
@@ -339,6 +339,28 @@ fn strips() {
     }
 }
 
+/// Every total: up to the length the answers are right under each, above it all is refused.
+#[test]
+fn every_total() {
+    let mut cases = Cases::new("bursts", "every_total", 707);
+    for given in lengths(1024).into_iter().map(Some).chain([None; 6]) {
+        for share in SHARES {
+            cases.run(|random| {
+                let length = given.unwrap_or_else(|| random.number_below(1024));
+                let mut strip = drawn(random, 1024, length, share, 500);
+                for total in strip.strip.totals() {
+                    strip.strip.handle.total = total;
+                    let w = 1 + random.number_below(length + 1);
+                    for m in [0, 1, w, w + 1] {
+                        let _ = strip.compare(Burst { w, m });
+                    }
+                    strip.compare_fullest(w);
+                }
+            });
+        }
+    }
+}
+
 /// The ones of a burst: m of them over w strokes from s on, at the first of these and at the last, so that no other window of
 /// w holds m.
 fn planted(s: u64, w: u64, m: u64) -> impl Iterator<Item = u64> {
@@ -374,7 +396,7 @@ fn long_strips() {
             for s in places(length, w, step) {
                 put(&mut words, planted(s, w, m), true);
                 for wanted in [Ok(s), Err(NotFound)] {
-                    let told = Burst { w, m }.told(Handle { capacity, length }, &mut Lent::new(&words));
+                    let told = Burst { w, m }.told(Handle::new(capacity, length), &mut Lent::new(&words));
                     assert_eq!(told, wanted, "burst({w}, {m}) of {length} strokes, planted at {s}");
                     put(&mut words, [s + w - 1], false);
                 }
@@ -416,7 +438,7 @@ fn largest_strip() {
         for s in [0, LARGEST / 2 + 1, last] {
             put(&mut words, planted(s, w, m), true);
             let mut lent = Lent::new(&words);
-            let mut told = |length| Burst { w, m }.told(Handle { capacity: LARGEST, length }, &mut lent);
+            let mut told = |length| Burst { w, m }.told(Handle::new(LARGEST, length), &mut lent);
             assert_eq!(told(LARGEST), Ok(s));
             assert_eq!(told(s + w - 1), Err(NotFound));
             put(&mut words, planted(s, w, m), false);
@@ -438,13 +460,10 @@ fn all_refuse(strip: &mut Strip, refusal: Refusal) {
 
 #[test]
 fn bad_handles() {
-    let above =
-        [512, 1024, LARGEST].into_iter().flat_map(|c| [c + 1, c + 512].into_iter().chain(FAR).map(move |n| (c, n)));
-    let capacities = BAD_CAPACITIES.into_iter().flat_map(|c| [0, 1, 512, c, u64::MAX].map(|n| (c, n)));
-    for (capacity, length) in above.chain(capacities) {
+    for h in borders::bad_handles() {
         for count in [0, 7, 8, 9, 16] {
             for bit in [false, true] {
-                all_refuse(&mut Strip::of_words(capacity, length, count, bit), BadHandle);
+                all_refuse(&mut Strip::under(h, vec![bit; 64 * count]), BadHandle);
             }
         }
     }
@@ -498,16 +517,16 @@ fn bad_windows() {
 fn first_refusal_wins() {
     for faults in 0..16 {
         let has = |n: u32| faults / 2u32.pow(n) % 2 == 1;
-        for way in 0..6 {
+        for way in 0..HANDLE_FAULTS {
             let fault = |n: u32| has(n).then_some(way);
-            let good = Handle { capacity: 1024, length: 700 };
+            let good = Handle::new(1024, 700);
             let mut strip = Strip::faulty(good, fault(0), fault(1), !has(3));
             let order = [(has(0), BadHandle), (has(1), WordCount), (has(2), BadWindow), (has(3), NotFound)];
             let wanted = order.into_iter().find(|(has, _)| *has).map_or(Ok(0), |(_, refusal)| Err(refusal));
             let (w, m) = if has(2) {
-                [(0, 1), (WIDEST + 1, 1), (700, 0), (700, 701), (WIDE + 700, 700), (700, WIDE + 1)][way]
+                [(0, 1), (WIDEST + 1, 1), (700, 0), (700, 701), (WIDE + 700, 700), (700, WIDE + 1)][way % 6]
             } else {
-                (700, [1, 2, 350, 699, 700, 64][way])
+                (700, [1, 2, 350, 699, 700, 64][way % 6])
             };
             expect(w, m, &mut strip, wanted);
         }
@@ -548,7 +567,7 @@ fn no_words() {
     for (capacity, refusal) in [(512, WordCount), (0, BadHandle)] {
         for (w, m) in [(1, 1), (0, 0), (WIDEST + 1, 1)] {
             // SAFETY: nothing is lent.
-            let told = unsafe { Burst { w, m }.ask((Handle { capacity, length: 0 }, null(), 0)) };
+            let told = unsafe { Burst { w, m }.ask((Handle::new(capacity, 0), null(), 0)) };
             assert_eq!(told, Err(refusal), "burst({w}, {m}) under capacity {capacity}");
         }
     }

@@ -1,5 +1,5 @@
 //! The calls on an image, against the plain model of them and of the layout.
-use strip_tests::borders::{FAR, LABELS, LARGEST, MOST_BYTES, SIZES, SMALL, VALUES, WIDE};
+use strip_tests::borders::{totals, FAR, LABELS, LARGEST, MOST_BYTES, SIZES, SMALL, VALUES, WIDE};
 use strip_tests::cases::{at_call, Cases};
 use strip_tests::draw::{damage, positions};
 use strip_tests::ffi;
@@ -99,16 +99,16 @@ fn compare_all(image: &[u8], labels: &[u64]) {
         assert_eq!(row_length(image, label), layout::row_length(image, label), "length of label {label}");
         assert_eq!(open(image, label), layout::open(image, label), "label {label}");
         compare_row(image, label, &[0, 4, 600, 5000]);
-        let _ = compare_freeze(&mut image.to_vec(), (Handle { capacity: 512, length: 7 }, &strip), label);
+        let _ = compare_freeze(&mut image.to_vec(), (Handle::new(512, 7), &strip), label);
     }
 }
 
 // ---- what they are called on
 
-/// A strip with anything past its length.
+/// A strip with anything past its length, under any total.
 fn strip(random: &mut Random, capacity: u64, length: u64, share: usize) -> (Handle, Vec<bool>) {
     let lent = [random.bits(length, share), random.bits(capacity - length, 500)].concat();
-    (Handle { capacity, length }, lent)
+    (Handle::new(capacity, length).with(random.number_below(length + 1)), lent)
 }
 
 /// An empty chain and then a pattern.
@@ -156,7 +156,7 @@ fn the_strip_01010_as_label_3() {
         bytes[at] = b;
     }
     assert_eq!(bytes, layout::image(&[(0, 3, text("01010"))], 0));
-    let (h, words) = (Handle { capacity: 512, length: 5 }, [10, 0, 0, 0, 0, 0, 0, 0]);
+    let (h, words) = (Handle::new(512, 5), [10, 0, 0, 0, 0, 0, 0, 0]);
     let mut image = vec![0; 560];
     assert_eq!(clear(&mut image), Ok(16));
     assert_eq!(freeze(h, &words, &mut image[..559], 3), Err(NoRoom));
@@ -276,6 +276,29 @@ fn freeze_of_each_length() {
     }
 }
 
+/// Under every total up to the length the same bytes are written, with the ones of the words; above it none.
+#[test]
+fn freeze_under_every_total() {
+    let mut cases = Cases::new("image", "freeze_under_every_total", 89);
+    for length in SMALL {
+        for share in [0, 3, 500, 1000] {
+            cases.run(|random| {
+                let (h, lent) = strip(random, 4608, length, share);
+                let image = layout::image(&[(1, 3, text("0110"))], 67);
+                let ones = model::number_of(&lent[..length as usize], true);
+                let mut right = image.clone();
+                assert!(compare_freeze(&mut right, (h.with(ones), &lent), 4).is_ok());
+                for total in totals(h, ones) {
+                    let mut given = image.clone();
+                    let told = compare_freeze(&mut given, (h.with(total), &lent), 4);
+                    assert_eq!(told.err(), (total > length).then_some(BadHandle), "total {total} of {length}");
+                    assert!(given == if total > length { &image[..] } else { &right }, "total {total} of {length}");
+                }
+            });
+        }
+    }
+}
+
 /// Every length up to a bit past two superblocks: a strip at unit 1, in as few words as hold it, and its opposite after it, in
 /// more. Ones stand past the length, and in every byte that a record is written to and after it: a bit too many or a byte left
 /// out shows, and in one of the two a bit too few.
@@ -291,7 +314,7 @@ fn freeze_of_every_length() {
             assert_eq!(clear(&mut image), Ok(16));
             for (label, capacity, mut lent) in [(1, least, bits), (2, least + 512 + 4096, opposite)] {
                 lent.resize(capacity as usize, true);
-                assert!(compare_freeze(&mut image, (Handle { capacity, length }, &lent), label).is_ok());
+                assert!(compare_freeze(&mut image, (Handle::new(capacity, length), &lent), label).is_ok());
             }
         });
     }
@@ -305,7 +328,7 @@ fn the_longest_strip_frozen() {
         let mut lent = random.bits(4099, 900).repeat(LARGEST as usize / 4099 + 1);
         lent.truncate(LARGEST as usize);
         let mut image = cleared(16 + layout::size(LARGEST));
-        let h = Handle { capacity: LARGEST, length: LARGEST };
+        let h = Handle::new(LARGEST, LARGEST);
         assert_eq!(compare_freeze(&mut image, (h, &lent), 64), Ok(1));
     });
 }
@@ -379,8 +402,9 @@ fn freeze_refuses_in_order() {
     let mut cases = Cases::new("image", "freeze_refuses_in_order", 79);
     for faults in 0..64usize {
         let has = |refusal: Refusal| faults >> order.iter().position(|&r| r == refusal).unwrap() & 1 == 1;
-        let bad = [(1025, 0), (0, 0), (1536, 1537), (u64::MAX - 511, 0)];
-        let handles = if has(BadHandle) { &bad[..] } else { &[(1024, 1000)] };
+        let bad =
+            [(1025, 0, 0), (0, 0, 0), (1536, 1537, 0), (u64::MAX - 511, 0, 0), (1024, 1000, 1001), (1024, 0, u64::MAX)];
+        let handles = if has(BadHandle) { &bad[..] } else { &[(1024, 1000, 1000)] };
         let present = if has(LabelPresent) { 3 } else { 4 };
         let labels = if has(BadLabel) { &[0, 65, WIDE, u64::MAX][..] } else { &[present] };
         let mut image = layout::image(&[(1, 3, text("0110"))], if has(NoRoom) { 33 } else { 34 });
@@ -390,10 +414,11 @@ fn freeze_refuses_in_order() {
         let told = order.into_iter().find(|&refusal| has(refusal)).map_or(Ok(36), Err);
         cases.run(|random| {
             let bits = random.bits(1088, 500);
-            for &(capacity, length) in handles {
+            for &(capacity, length, total) in handles {
                 for &label in labels {
                     let lent = &bits[..if has(WordCount) { [960, 1088][label as usize % 2] } else { 1024 }];
-                    let answer = compare_freeze(&mut image.clone(), (Handle { capacity, length }, lent), label);
+                    let h = Handle { capacity, length, total };
+                    let answer = compare_freeze(&mut image.clone(), (h, lent), label);
                     assert_eq!(answer, told, "faults {faults:06b}");
                 }
             }
@@ -476,7 +501,7 @@ fn small_images() {
             compare_all(&vec![byte; size], &LABELS);
         }
     }
-    let (h, lent) = (Handle { capacity: 512, length: 0 }, vec![true; 512]);
+    let (h, lent) = (Handle::new(512, 0), vec![true; 512]);
     for size in [0, 1, 15] {
         let mut image = vec![0; size];
         assert_eq!(open(&image, 1), Err(Unsound));
@@ -565,7 +590,7 @@ fn images_cut_short() {
 #[test]
 fn the_longest_row() {
     let mut image = layout::image(&[(0, 5, Vec::new())], 33 * 32_769 + 1);
-    let (h, lent) = (Handle { capacity: 512, length: 7 }, text("10").repeat(256));
+    let (h, lent) = (Handle::new(512, 7), text("10").repeat(256));
     layout::store(&mut image, 24, LARGEST + 1);
     assert_eq!(open(&image, 5), Err(Unsound));
     assert_eq!(row_get(&image, 5, 0), Err(Unsound));
@@ -593,8 +618,8 @@ fn the_largest_image() {
         assert_eq!(answer(ffi::image_clear(bytes, most + 1)), Err(NoRoom));
         assert_eq!(*bytes.add(4), 0);
         assert_eq!(answer(ffi::image_clear(bytes, most)), Ok(16));
-        assert_eq!(answer(ffi::image_freeze(512, 5, w, 8, bytes, most + 1, 3)), Err(Unsound));
-        assert_eq!(answer(ffi::image_freeze(512, 5, w, 8, bytes, most, 3)), Ok(1));
+        assert_eq!(answer(ffi::image_freeze(512, 5, 2, w, 8, bytes, most + 1, 3)), Err(Unsound));
+        assert_eq!(answer(ffi::image_freeze(512, 5, 2, w, 8, bytes, most, 3)), Ok(1));
         assert_eq!(answer(ffi::image_row_rank(bytes, most, 3, 1, 5)), Ok(2));
         assert_eq!(answer(ffi::image_row_rank(bytes, most + 1, 3, 1, 5)), Err(Unsound));
         assert_eq!(answer(ffi::image_row_select(bytes, most, 3, 1, 1)), Ok(3));
@@ -623,7 +648,7 @@ fn freeze_at_the_end_of_the_largest_image() {
     image[last..at].copy_from_slice(&layout::record(0, 1, &[]));
     let (bytes, w) = (image.as_mut_ptr(), words.as_ptr());
     // SAFETY: as in `the_largest_image`.
-    let told = [MOST_BYTES - 1, MOST_BYTES].map(|size| unsafe { ffi::image_freeze(512, 5, w, 8, bytes, size, 3) });
+    let told = [MOST_BYTES - 1, MOST_BYTES].map(|size| unsafe { ffi::image_freeze(512, 5, 2, w, 8, bytes, size, 3) });
     assert_eq!(told.map(answer), [Err(NoRoom), Ok(at as u64 / 16)]);
     assert_eq!(layout::chain(&image), Some(vec![last, at]));
     assert_eq!(image[at..], layout::record(0, 3, &bits));

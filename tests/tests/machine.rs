@@ -15,6 +15,7 @@ use strip_tests::record::UNTOUCHED;
 use strip_tests::refusal::{numbers, values, Refusal, Values};
 use strip_tests::script::Buffers;
 use strip_tests::tally::Tally;
+use strip_tests::Handle;
 use Opcode::*;
 use Refusal::*;
 
@@ -57,6 +58,8 @@ struct List {
     machine: Result<Machine, Refusal>,
     script: Vec<u64>,
     answers: Vec<u64>,
+    /// the machine's handle after each call
+    handles: Vec<Handle>,
 }
 
 impl List {
@@ -72,6 +75,7 @@ impl List {
             image,
             script: Vec::new(),
             answers: Vec::new(),
+            handles: Vec::new(),
         }
     }
 
@@ -91,6 +95,7 @@ impl List {
         let Ok(machine) = &mut self.machine else { return };
         let told = machine.step(call);
         self.answers.extend(numbers(told));
+        self.handles.push(machine.strip.handle());
         tally.note(call, told);
     }
 
@@ -109,7 +114,7 @@ impl List {
             let opcode = OPCODES[weighted(random, &weights)];
             let machine = self.machine();
             let capacity = machine.strip.capacity;
-            let scene = Scene { capacity, strip: &machine.strip.bits, rows: &machine.shelf };
+            let scene = Scene { capacity, strip: machine.strip.bits(), rows: &machine.shelf };
             let call = draw::call(random, opcode, &scene);
             self.feed(call, tally);
         }
@@ -117,7 +122,7 @@ impl List {
 
     /// The number of answers of this script.
     fn room(&self) -> usize {
-        3 + 3 * (self.script.len() / 4)
+        4 + 3 * (self.script.len() / 4)
     }
 
     /// Runs the script with `spare` more numbers than its answers need, and compares all that it leaves.
@@ -126,10 +131,10 @@ impl List {
         let (run, answers) = buffers.execute(&self.script, self.capacity, self.clear_first, self.room() + spare);
         match &self.machine {
             Ok(machine) => {
-                let h = machine.strip.handle();
+                let h = machine.handle();
                 assert_eq!(run, self.script.len() as u64 / 4, "calls run");
-                self.compare_answers(&answers[3..self.room()]);
-                assert_eq!(answers[..3], [0, h.capacity, h.length], "the last handle");
+                self.compare_answers(&answers[4..self.room()]);
+                assert_eq!(answers[..4], [0, h.capacity, h.length, h.total], "the last handle");
                 assert!(answers[self.room()..].iter().all(|number| *number == UNTOUCHED), "an answer past the last");
                 compare_buffers(&buffers, machine);
             }
@@ -140,6 +145,25 @@ impl List {
                 self.untouched(&buffers);
             }
         }
+    }
+
+    /// Runs the script a call at a time, and compares the handle that each call gives back, what it tells, and all that the last
+    /// one leaves.
+    fn compare_steps(&self) {
+        let mut buffers = Buffers::new(&self.words, &self.counters, &self.image);
+        let (_, opened) = buffers.execute(&[], self.capacity, self.clear_first, 4);
+        let mut h = Handle { capacity: opened[1], length: opened[2], total: opened[3] };
+        let mut answers = Vec::new();
+        for (at, (call, owed)) in self.script.chunks_exact(4).zip(&self.handles).enumerate() {
+            at_call(at);
+            let out = buffers.step(Call { op: call[0], x: call[1], y: call[2], z: call[3] }, h, 6);
+            h = Handle::told(&out);
+            assert_eq!(h, *owed, "the handle after {call:?}, capacity {}", self.capacity);
+            answers.extend(&out[..3]);
+        }
+        self.compare_answers(&answers);
+        assert_eq!(h, self.machine().handle(), "the last handle");
+        compare_buffers(&buffers, self.machine());
     }
 
     /// The answers of the calls; the first that is another is told with its call.
@@ -196,8 +220,9 @@ fn weighted(random: &mut Random, weights: &[usize]) -> usize {
     index
 }
 
-/// A list of rounds, each so many adds and then so many calls of every kind, with a lay before every round but the first.
-fn rounds(random: &mut Random, mut list: List, rounds: &[(u64, usize)], tally: &mut Tally) {
+/// A list of rounds, each so many adds and then so many calls of every kind, with a lay before every round but the first: run at
+/// once, and one in eight a call at a time too.
+fn rounds(random: &mut Random, mut list: List, rounds: &[(u64, usize)], tally: &mut Tally) -> List {
     for (round, (adds, calls)) in rounds.iter().enumerate() {
         if round > 0 {
             list.feed(Call::new(Create, [list.capacity, 0, 0]), tally);
@@ -207,6 +232,10 @@ fn rounds(random: &mut Random, mut list: List, rounds: &[(u64, usize)], tally: &
         list.mix(random, *calls, tally);
     }
     list.compare(random.below(20));
+    if random.below(8) == 0 {
+        list.compare_steps();
+    }
+    list
 }
 
 /// So many adds: none, some, or as many as fill the strip and up to two more.
@@ -221,20 +250,20 @@ fn adds(random: &mut Random, capacity: u64) -> u64 {
 // ---- lists
 
 /// A list of up to 7,500 calls and the adds before them, under a small capacity.
-fn small_list(random: &mut Random, tally: &mut Tally) {
+fn small_list(random: &mut Random, tally: &mut Tally) -> List {
     let capacity = 512 * (1 + random.number_below(12));
     let most = [40, 1500, 12_000, 80_000][random.below(4)];
     let bytes = 16 + random.below(most);
     let list = List::fitting(random, capacity, bytes);
     let plan: Vec<_> = (0..1 + random.below(3)).map(|_| (adds(random, capacity), random.below(2500))).collect();
-    rounds(random, list, &plan, tally);
+    rounds(random, list, &plan, tally)
 }
 
 #[test]
 fn lists_at_one_level() {
     let (mut cases, mut tally) = (Cases::new("machine", "lists_at_one_level", 101), Tally::default());
     for _ in 0..1500 {
-        cases.run(|random| small_list(random, &mut tally));
+        cases.run(|random| drop(small_list(random, &mut tally)));
     }
     for _ in 0..20 {
         cases.run(|random| {
@@ -385,22 +414,22 @@ fn the_rest_is_unread() {
 #[test]
 fn the_largest_image() {
     let most = MOST_BYTES;
-    let (mut image, mut words, mut counters, mut answers) = (vec![0u8; most + 1], [7u64; 8], [7u32; 72], [7u64; 12]);
+    let (mut image, mut words, mut counters, mut answers) = (vec![0u8; most + 1], [7u64; 8], [7u32; 72], [7u64; 13]);
     let script = script(&[(Push, [1, 0, 0]), (Freeze, [3, 0, 0]), (RowRank, [3, 1, 1])]);
-    let mut run = |bytes: usize, clear_first: u64, answers: &mut [u64; 12]| {
+    let mut run = |bytes: usize, clear_first: u64, answers: &mut [u64; 13]| {
         let (s, w, c, i, a) =
             (script.as_ptr(), words.as_mut_ptr(), counters.as_mut_ptr(), image.as_mut_ptr(), answers.as_mut_ptr());
         // SAFETY: the pointers are to at least as many numbers as are named, which live through the call and do not meet.
-        let run = unsafe { ffi::strip_execute(s, 12, 512, clear_first, w, 8, c, 72, i, bytes, a, 12) };
+        let run = unsafe { ffi::strip_execute(s, 12, 512, clear_first, w, 8, c, 72, i, bytes, a, 13) };
         (run, words[0], image[..600].to_vec())
     };
     for clear_first in [0, 1] {
         assert_eq!(run(most + 1, clear_first, &mut answers), (0, 7, vec![0; 600]));
-        assert_eq!(answers, [NoRoom.number(), 7, 7, 7, 7, 7, 7, 7, 7, 7, 7, 7]);
+        assert_eq!(answers, [NoRoom.number(), 7, 7, 7, 7, 7, 7, 7, 7, 7, 7, 7, 7]);
     }
     let (calls, word, bytes) = run(most, 0, &mut answers);
     assert_eq!((calls, word), (3, 1));
-    assert_eq!(answers, [0, 512, 1, 0, 0, 15, 0, 1, 0, 0, 1, 0]);
+    assert_eq!(answers, [0, 512, 1, 1, 0, 0, 15, 0, 1, 0, 0, 1, 0]);
     assert!(bytes[..560] == layout::image(&[(0, 3, vec![true])], 0) && bytes[560..].iter().all(|b| *b == 0));
 }
 
@@ -445,9 +474,20 @@ fn many_short_lists() {
 fn many_long_lists() {
     let (mut cases, mut tally) = (Cases::new("machine", "many_long_lists", 109), Tally::default());
     for _ in 0..setting("LONG_LISTS").unwrap_or(6000) {
-        cases.run(|random| small_list(random, &mut tally));
+        cases.run(|random| drop(small_list(random, &mut tally)));
     }
     finish(&cases, &tally, "long");
+}
+
+/// STEPPED_LISTS lists of many calls, each a call at a time too: the handle is compared after every call.
+#[test]
+#[ignore = "minutes; docs/ROBUSTNESS.md"]
+fn many_stepped_lists() {
+    let (mut cases, mut tally) = (Cases::new("machine", "many_stepped_lists", 110), Tally::default());
+    for _ in 0..setting("STEPPED_LISTS").unwrap_or(2000) {
+        cases.run(|random| small_list(random, &mut tally).compare_steps());
+    }
+    finish(&cases, &tally, "stepped");
 }
 
 // ---- examples, with their answers worked out by hand
@@ -458,9 +498,9 @@ fn after(capacity: u64, text: &str, calls: &[(Opcode, [u64; 3])]) -> Vec<Values>
     let script = script(&[&adds, calls].concat());
     let counters = vec![7; counter_count(capacity)];
     let mut buffers = Buffers::new(&vec![7; word_count(capacity)], &counters, &[7; 560]);
-    let (run, answers) = buffers.execute(&script, capacity, 0, 3 + 3 * (script.len() / 4));
+    let (run, answers) = buffers.execute(&script, capacity, 0, 4 + 3 * (script.len() / 4));
     assert_eq!(run as usize, script.len() / 4);
-    answers[3 + 3 * text.len()..].chunks(3).map(values).collect()
+    answers[4 + 3 * text.len()..].chunks(3).map(values).collect()
 }
 
 #[test]

@@ -1,12 +1,12 @@
 //! The six calls that compare two strips, against the plain model and against answers worked out by hand.
 use std::ptr::null;
-use strip_tests::borders::{beside, lengths, BAD_CAPACITIES, FAR, LARGEST, ONE_LEVEL, TWO_LEVELS, WIDE};
+use strip_tests::borders::{self, beside, lengths, FAR, LARGEST, ONE_LEVEL, TWO_LEVELS, WIDE};
 use strip_tests::cases::{at_call, Cases};
 use strip_tests::model::{self, word_count};
 use strip_tests::pair::{counts, Comparison, COMPARISONS};
 use strip_tests::random::Random;
 use strip_tests::refusal::{Refusal, Signed};
-use strip_tests::strip::{both_handles, Strip};
+use strip_tests::strip::{both_handles, both_totals, Strip, HANDLE_FAULTS};
 use strip_tests::tally::Tally;
 use strip_tests::{draw, Handle, Lent};
 use Comparison::{Both, Differ, Either, Find, OnlyFirst, Span};
@@ -185,7 +185,7 @@ fn extremes() {
         (LARGEST, LARGEST - 1),
         (LARGEST, LARGEST),
     ] {
-        let (h, n) = (Handle { capacity, length }, length as i64);
+        let (h, n) = (Handle::new(capacity, length), length as i64);
         let mut words = vec![u64::MAX; word_count(capacity)];
         for (place, word) in (0..).zip(&mut words) {
             let ones = length.saturating_sub(64 * place).min(64);
@@ -277,7 +277,7 @@ fn drawn(
 /// Comparisons on two strips: counts around 0, the ends of words and blocks, the length and the capacity; the first, last
 /// and first absent k; spans inside a word, over two, over many, on and off their ends; arguments far past; some at random.
 fn comparisons(random: &mut Random, first: &Strip, second: &Strip, at_random: usize) -> Vec<Comparison> {
-    let Handle { capacity, length } = first.handle;
+    let Handle { capacity, length, .. } = first.handle;
     let mut list = Vec::new();
     for i in FAR.into_iter().chain([0, 64, 512, length / 64 * 64, length, capacity].into_iter().flat_map(beside)) {
         list.extend(counts(i));
@@ -356,6 +356,27 @@ fn strips() {
                     });
                 }
             }
+        }
+    }
+}
+
+/// Every total of either strip: up to the length the answers are the same under each, above it all is refused.
+#[test]
+fn every_total() {
+    let mut cases = Cases::new("pairs", "every_total", 414);
+    for given in lengths(1024).into_iter().map(Some).chain([None; 4]) {
+        for density in [(0, Beside::Ones(0)), (20, Beside::Ones(500)), (1000, Beside::Ones(1000))] {
+            cases.run(|random| {
+                let length = given.unwrap_or_else(|| random.number_below(1024));
+                let [mut first, mut second] = drawn(random, 1024, length, density, (500, 500));
+                for (total, other) in both_totals(&first, &second) {
+                    (first.handle.total, second.handle.total) = (total, other);
+                    let i = random.number_below(length + 1);
+                    for comparison in counts(i).into_iter().chain([Find(i), Find(0), Span(0, i), Span(0, length + 1)]) {
+                        compare_both_ways(comparison, &mut first, &mut second);
+                    }
+                }
+            });
         }
     }
 }
@@ -440,7 +461,7 @@ fn one_buffer() {
         cases.run(|random| {
             let bits = random.bits(1024, 500);
             let mut lent = Lent::new(&model::words_of(&bits));
-            let h = Handle { capacity: 1024, length };
+            let h = Handle::new(1024, length);
             for i in [0, 1, length / 2, length].into_iter().filter(|i| *i <= length) {
                 let ones = Ok(model::rank(&bits, 1, i).unwrap() as i64);
                 assert_eq!(counts(i).map(|c| c.told_of_one(h, h, &mut lent)), [ones, ones, Ok(0), Ok(0)]);
@@ -481,15 +502,11 @@ fn both_ways_refuse(first: &mut Strip, second: &mut Strip, refusal: Refusal) {
 /// A bad handle beside a good strip, and beside itself.
 #[test]
 fn bad_handles() {
-    let above =
-        [512, 1024, LARGEST].into_iter().flat_map(|c| [c + 1, c + 512].into_iter().chain(FAR).map(move |n| (c, n)));
-    let capacities = BAD_CAPACITIES.into_iter().flat_map(|c| [0, 1, 512, c, u64::MAX].map(|n| (c, n)));
-    for (capacity, length) in above.chain(capacities) {
+    for h in borders::bad_handles() {
         for count in [0, 7, 8, 16] {
-            let mut bad = Strip::of_words(capacity, length, count, true);
-            let mut same = Strip::of_words(capacity, length, count, false);
+            let [mut bad, mut same] = [true, false].map(|bit| Strip::under(h, vec![bit; 64 * count]));
             both_ways_refuse(&mut bad, &mut same, BadHandle);
-            for good in [(512, 0), (512, 512), (1024, length.min(1024))] {
+            for good in [(512, 0), (512, 512), (1024, h.length.min(1024))] {
                 both_ways_refuse(&mut bad, &mut Strip::filled(good.0, good.1, true), BadHandle);
             }
         }
@@ -608,10 +625,10 @@ fn pairs_of_refusals() {
 fn first_refusal_wins() {
     for faults in 0..256 {
         let has = |n: u32| faults / 2u32.pow(n) % 2 == 1;
-        for way in 0..6 {
+        for way in 0..HANDLE_FAULTS {
             let fault = |n: u32| has(n).then_some(way);
-            let first = Handle { capacity: 1024, length: 700 };
-            let second = Handle { capacity: if has(4) { 1536 } else { 1024 }, length: if has(5) { 701 } else { 700 } };
+            let first = Handle::new(1024, 700);
+            let second = Handle::new(if has(4) { 1536 } else { 1024 }, if has(5) { 701 } else { 700 });
             let mut first = Strip::faulty(first, fault(0), fault(1), true);
             let mut second = Strip::faulty(second, fault(2), fault(3), has(6));
             let of_strips = [
@@ -643,8 +660,8 @@ fn first_refusal_wins() {
 /// Where no words are lent for a strip, the pointer may be null.
 #[test]
 fn no_words() {
-    let good = (Handle { capacity: 512, length: 0 }, [0u64; 8]);
-    let no_words = |capacity, length| (Handle { capacity, length }, null(), 0);
+    let good = (Handle::new(512, 0), [0u64; 8]);
+    let no_words = |capacity, length| (Handle::new(capacity, length), null(), 0);
     for comparison in COMPARISONS {
         let some = (good.0, good.1.as_ptr(), good.1.len());
         for (first, second, refusal) in [

@@ -80,7 +80,7 @@ fn a_record_takes_its_size() {
     let mut cases = Cases::new("query", "a_record_takes_its_size", 301);
     for length in SMALL.into_iter().chain(UNITS) {
         cases.run(|random| {
-            let h = Handle { capacity: length.next_multiple_of(512).max(512), length };
+            let h = Handle::new(length.next_multiple_of(512).max(512), length);
             let words: Vec<u64> = (0..word_count(h.capacity)).map(|_| random.number()).collect();
             let size = record_size(length).unwrap() as usize;
             let mut image = vec![0x77; 16 + size];

@@ -32,7 +32,12 @@ struct Strip {
 }
 
 fn strip(capacity: u64, length: u64, words: Vec<u64>) -> Strip {
-    Strip { handle: Handle { capacity, length }, words }
+    Strip { handle: Handle::new(capacity, length), words }
+}
+
+/// The same with a total above its length.
+fn above(strip: Strip) -> Strip {
+    Strip { handle: strip.handle.with(strip.handle.length + 1), ..strip }
 }
 
 /// Two strips, half of them ones at random.
@@ -266,6 +271,7 @@ fn refused_read_nothing() {
         (of_words(CAPACITY, CAPACITY + 1, WORDS), BadHandle),
         (of_words(CAPACITY - 1, LENGTH, WORDS), BadHandle),
         (of_words(0, 0, WORDS), BadHandle),
+        (above(of_words(CAPACITY, LENGTH, WORDS)), BadHandle),
         (of_words(CAPACITY, LENGTH, WORDS - 1), WordCount),
         (of_words(CAPACITY, LENGTH, WORDS + 1), WordCount),
         (of_words(CAPACITY, LENGTH - 1, WORDS), Unequal),
@@ -333,17 +339,19 @@ fn refused_freeze_reads_nothing() {
     let image = layout::image(&[(0, 3, vec![true; 7])], layout::size(LENGTH) / 16);
     let (short, mut unsound) = (&image[..image.len() - 1], image.clone());
     unsound[8] = 1;
-    for (capacity, length, count, image, label, refusal) in [
-        (CAPACITY, CAPACITY + 1, WORDS, &image[..], 4, BadHandle),
-        (CAPACITY - 1, LENGTH, WORDS, &image, 4, BadHandle),
-        (CAPACITY, LENGTH, WORDS - 1, &image, 4, WordCount),
-        (CAPACITY, LENGTH, WORDS + 1, &image, 4, WordCount),
-        (CAPACITY, LENGTH, WORDS, &unsound, 4, Unsound),
-        (CAPACITY, LENGTH, WORDS, &image, 65, BadLabel),
-        (CAPACITY, LENGTH, WORDS, &image, 3, LabelPresent),
-        (CAPACITY, LENGTH, WORDS, short, 4, NoRoom),
+    let good = Handle::new(CAPACITY, LENGTH);
+    for (handle, count, image, label, refusal) in [
+        (Handle::new(CAPACITY, CAPACITY + 1), WORDS, &image[..], 4, BadHandle),
+        (Handle::new(CAPACITY - 1, LENGTH), WORDS, &image, 4, BadHandle),
+        (good.with(LENGTH + 1), WORDS, &image, 4, BadHandle),
+        (good, WORDS - 1, &image, 4, WordCount),
+        (good, WORDS + 1, &image, 4, WordCount),
+        (good, WORDS, &unsound, 4, Unsound),
+        (good, WORDS, &image, 65, BadLabel),
+        (good, WORDS, &image, 3, LabelPresent),
+        (good, WORDS, short, 4, NoRoom),
     ] {
-        let strip = strip(capacity, length, vec![u64::MAX; count]);
+        let strip = Strip { handle, words: vec![u64::MAX; count] };
         let bits = model::bits_of(&strip.words);
         assert_eq!(expect_freeze(&strip, &bits, 0..0, image, label), Err(refusal));
     }
@@ -393,6 +401,7 @@ fn refused_burst_reads_nothing() {
         (of_words(CAPACITY, CAPACITY + 1, WORDS), BadHandle),
         (of_words(CAPACITY - 1, LENGTH, WORDS), BadHandle),
         (of_words(0, 0, WORDS), BadHandle),
+        (above(of_words(CAPACITY, LENGTH, WORDS)), BadHandle),
         (of_words(CAPACITY, LENGTH, WORDS - 1), WordCount),
         (of_words(CAPACITY, LENGTH, WORDS + 1), WordCount),
     ] {

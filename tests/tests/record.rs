@@ -1,7 +1,7 @@
 //! The eight calls on a record, against the plain model and against answers worked out by hand.
 use strip_tests::borders::{
-    BAD_CAPACITIES, BAD_VALUES, COUNTERS, FAR, LARGEST, ONE_LEVEL, THREE_LEVELS, TWO_LEVELS, TWO_LEVELS_FULL, UNITS,
-    VALUES,
+    self, beside, lengths, totals, BAD_CAPACITIES, BAD_VALUES, COUNTERS, FAR, LARGEST, ONE_LEVEL, THREE_LEVELS,
+    TWO_LEVELS, TWO_LEVELS_FULL, UNITS, VALUES,
 };
 use strip_tests::cases::{at_call, Cases};
 use strip_tests::model::{self, counter_count, word_count, Strip};
@@ -73,7 +73,7 @@ impl Pair {
     fn model_change(&mut self, change: Change) -> Report {
         let told = self.strip.step(self.record.sizes(), change.into());
         let none = told.is_err() && matches!(change, Create(_));
-        Report { told, handle: if none { Handle { capacity: 0, length: 0 } } else { self.handle() } }
+        Report { told, handle: if none { Handle::new(0, 0) } else { self.handle() } }
     }
 
     fn read(&mut self, reading: Reading) -> Answer {
@@ -84,8 +84,9 @@ impl Pair {
         answer
     }
 
-    /// Compares all words and all counters with those laid afresh.
+    /// Compares all words and all counters with those laid afresh, and the total with the ones.
     fn compare(&self) {
+        assert_eq!(self.handle().total, self.strip.ones(), "total under {:?}", self.handle());
         assert!(self.record.words() == self.strip.words(), "words under {:?}", self.handle());
         assert!(self.record.counters() == self.strip.counters(), "counters under {:?}", self.handle());
     }
@@ -131,13 +132,13 @@ fn p7_to_p10() {
         assert_eq!(*counter, if ten { 10 } else { 0 });
     }
     let h = a.handle();
-    assert_eq!(a.change(Flip(3)), Report { told: Ok((1, 15)), handle: h });
+    assert_eq!(a.change(Flip(3)), Report { told: Ok((1, 15)), handle: h.with(11) });
     let mut full = Pair::new(32_768, vec![true; 32_768]);
     let h = full.handle();
-    assert_eq!(full.change(Flip(32_767)), Report { told: Ok((0, 1)), handle: h });
+    assert_eq!(full.change(Flip(32_767)), Report { told: Ok((0, 1)), handle: h.with(32_767) });
     let mut full = Pair::new(33_280, vec![true; 33_280]);
     let h = full.handle();
-    assert_eq!(full.change(Flip(32_768)), Report { told: Ok((0, 29)), handle: h });
+    assert_eq!(full.change(Flip(32_768)), Report { told: Ok((0, 29)), handle: h.with(33_279) });
 }
 
 #[test]
@@ -145,9 +146,9 @@ fn p11() {
     for (capacity, number) in COUNTERS {
         assert_eq!(counters_needed(capacity), Ok(number as u64));
         let mut record = Record::new(&vec![u64::MAX; word_count(capacity)], &vec![u32::MAX; number]);
-        let handle = Handle { capacity, length: 0 };
+        let handle = Handle::new(capacity, 0);
         // the handle that it gets is of no account to create
-        let report = record.change(Handle { capacity: 1, length: 2 }, Create(capacity));
+        let report = record.change(Handle::new(1, 2).with(3), Create(capacity));
         assert_eq!(report, Report { told: Ok((number as u64, 0)), handle });
         assert!(record.words().iter().all(|word| *word == 0) && record.counters().iter().all(|counter| *counter == 0));
         assert_eq!(record.read(handle, Verify), Ok(0));
@@ -186,7 +187,7 @@ fn counters_changed_by(pair: &mut Pair, p: u64) {
 // ---- lists of edits
 
 fn random_change(random: &mut Random, h: Handle) -> Change {
-    let Handle { capacity, length } = h;
+    let Handle { capacity, length, .. } = h;
     let v = random.number_below(2);
     let [mut a, mut b] = [0, 0].map(|_| place(random, length + 1));
     if a > b {
@@ -354,11 +355,11 @@ fn push_until_full() {
             let mut h = record.change(strip.handle(), Create(capacity)).handle;
             for p in 0..capacity {
                 at_call(p as usize);
-                let bit = random.below(2) == 1;
-                let report = record.change(h, Push(u64::from(bit)));
+                let push = Push(random.number_below(2));
+                let report = record.change(h, push);
+                assert_eq!(report.told, strip.step(record.sizes(), push.into()));
                 assert_eq!(report.told.map(|(position, _)| position), Ok(p));
                 h = report.handle;
-                strip.bits.push(bit);
                 assert_eq!(h, strip.handle());
             }
             full(&mut Pair { strip, record });
@@ -389,7 +390,7 @@ fn read_all(pair: &mut Pair) {
             assert_eq!(pair.record.read(h, Rank(v, p)), Ok(count));
         }
         if p < h.length {
-            let v = usize::from(pair.strip.bits[p as usize]);
+            let v = usize::from(pair.strip.bits()[p as usize]);
             assert_eq!(pair.record.read(h, Select(v as u64, seen[v])), Ok(p));
             seen[v] += 1;
         }
@@ -404,7 +405,7 @@ fn read_all(pair: &mut Pair) {
 /// Asserts that a change is refused so, gives back the handle that it got, and changes nothing.
 fn change_refused(record: &mut Record, h: Handle, change: Change, refusal: Refusal) {
     let (words, counters) = (record.words().to_vec(), record.counters().to_vec());
-    let handle = if matches!(change, Create(_)) { Handle { capacity: 0, length: 0 } } else { h };
+    let handle = if matches!(change, Create(_)) { Handle::new(0, 0) } else { h };
     let report = record.change(h, change);
     assert_eq!(report, refused(refusal, handle), "{change:?} under {h:?}, lent {:?}", record.sizes());
     assert!(record.words() == words && record.counters() == counters, "{change:?} under {h:?} changed the record");
@@ -436,16 +437,11 @@ fn all_refused(record: &mut Record, h: Handle, refusal: Refusal) {
 fn bad_handles() {
     for (words, counters) in [(0, 0), (8, 72), (16, 72), (8, 0), (9, 71)] {
         let mut record = Record::new(&vec![u64::MAX; words], &vec![3; counters]);
-        for capacity in BAD_CAPACITIES {
-            for length in [0, 1, capacity, u64::MAX] {
-                all_refused(&mut record, Handle { capacity, length }, BadHandle);
-            }
-            change_refused(&mut record, Handle { capacity: 512, length: 0 }, Create(capacity), BadHandle);
+        for h in borders::bad_handles() {
+            all_refused(&mut record, h, BadHandle);
         }
-        for capacity in [512, 1024, LARGEST] {
-            for length in [capacity + 1, capacity + 512].into_iter().chain(FAR) {
-                all_refused(&mut record, Handle { capacity, length }, BadHandle);
-            }
+        for capacity in BAD_CAPACITIES {
+            change_refused(&mut record, Handle::new(512, 0), Create(capacity), BadHandle);
         }
     }
 }
@@ -455,7 +451,7 @@ fn wrong_sizes() {
     for capacity in [512, 1024, ONE_LEVEL, TWO_LEVELS] {
         let (words, counters) = (word_count(capacity), counter_count(capacity));
         for length in [0, 1, capacity] {
-            let h = Handle { capacity, length };
+            let h = Handle::new(capacity, length).with(length / 2);
             for wrong in [0, 1, words - 1, words + 1, 2 * words] {
                 for any in [0, counters - 1, counters] {
                     let mut record = Record::new(&vec![u64::MAX; wrong], &vec![3; any]);
@@ -471,58 +467,63 @@ fn wrong_sizes() {
         }
     }
     let mut record = Record::new(&vec![u64::MAX; word_count(LARGEST)], &vec![3; counter_count(LARGEST) - 72]);
-    let h = Handle { capacity: LARGEST, length: 5 };
+    let h = Handle::new(LARGEST, 5);
     reading_refused(&mut record, h, Verify, CounterCount);
     reading_refused(&mut record, h, Rank(2, 6), CounterCount);
     change_refused(&mut record, h, Truncate(6), CounterCount);
     change_refused(&mut record, h, Create(LARGEST), CounterCount);
 }
 
-/// A record of ones under capacity 1024 with some of these faults: its handle, its words, its counters.
-fn faulty([handle, words, counters]: [bool; 3], length: u64) -> (Record, Handle) {
+/// A record of ones under capacity 1024 with some of these faults: its handle, by the length or the total, its words, its
+/// counters.
+fn faulty([above, long, words, counters]: [bool; 4], length: u64, total: u64) -> (Record, Handle) {
     let strip = Strip::new(1024, vec![true; length as usize]);
     let (mut packed_words, mut built_counters) = (strip.words(), strip.counters());
     packed_words.resize(if words { 15 } else { 16 }, 0);
     built_counters.resize(if counters { 73 } else { 72 }, 0);
-    let h = Handle { capacity: 1024, length: if handle { 1025 } else { length } };
+    let length = if long { 1025 } else { length };
+    let h = Handle::new(1024, length).with(if above { length + 1 } else { total });
     (Record::new(&packed_words, &built_counters), h)
 }
 
 /// Every set of faults of a call at once: the first in its order is the answer.
 #[test]
 fn first_refusal_wins() {
-    for faults in 0..64 {
+    for faults in 0..128 {
         let has = |n: u32| faults / 2u32.pow(n) % 2 == 1;
-        let lent = [has(0), has(1), has(2)];
-        let common = [(lent[0], BadHandle), (lent[1], WordCount), (lent[2], CounterCount)];
+        let lent = [has(0), has(1), has(2), has(3)];
+        let common = [(lent[0] || lent[1], BadHandle), (lent[2], WordCount), (lent[3], CounterCount)];
         let first = |own: &[(bool, Refusal)]| common.iter().chain(own).find(|(applies, _)| *applies).map(|(_, r)| *r);
-        let changes = |length: u64, change: Change, own: &[(bool, Refusal)]| {
-            let (mut record, h) = faulty(lent, length);
+        let changes = |length: u64, total: u64, change: Change, own: &[(bool, Refusal)]| {
+            let (mut record, h) = faulty(lent, length, total);
             match first(own) {
                 Some(refusal) => change_refused(&mut record, h, change, refusal),
                 None => assert!(record.change(h, change).told.is_ok(), "{change:?} under {h:?}"),
             }
         };
-        let reads = |reading: Reading, own: &[(bool, Refusal)]| {
-            let (mut record, h) = faulty(lent, 700);
+        let reads = |total: u64, reading: Reading, own: &[(bool, Refusal)]| {
+            let (mut record, h) = faulty(lent, 700, total);
             match first(own) {
                 Some(refusal) => reading_refused(&mut record, h, reading, refusal),
                 None => assert!(record.read(h, reading).is_ok(), "{reading:?} under {h:?}"),
             }
         };
-        let (x, y, z) = (has(3), has(4), has(5));
+        let (x, y, z) = (has(4), has(5), has(6));
         let v = if x { 2 } else { 1 };
         // a position past the length also where the length is 1025
         let past = |p: u64, far: bool| if far { 1026 } else { p };
-        changes(if y { 1024 } else { 700 }, Push(v), &[(x, BadValue), (y, Full)]);
-        changes(700, Flip(past(699, x)), &[(x, Position)]);
+        let length = if y { 1024 } else { 700 };
+        changes(length, length, Push(v), &[(x, BadValue), (y, Full)]);
+        changes(700, if y { 0 } else { 700 }, Flip(past(699, x)), &[(x, Position), (y, Unfit)]);
         let b = past(300, z);
-        changes(700, Fill(if y { b + 1 } else { 200 }, b, v), &[(x, BadValue), (y, Span), (z, Position)]);
-        changes(700, Truncate(past(700, x)), &[(x, Position)]);
-        changes(700, Create(if lent[0] { 1025 } else { 1024 }), &[]);
-        reads(Rank(v, past(700, y)), &[(x, BadValue), (y, Position)]);
-        reads(Select(v, if y { 700 } else { 699 }), &[(x, BadValue), (y, NotFound)]);
-        reads(Verify, &[]);
+        changes(700, 700, Fill(if y { b + 1 } else { 200 }, b, v), &[(x, BadValue), (y, Span), (z, Position)]);
+        changes(700, 700, Truncate(past(700, x)), &[(x, Position)]);
+        changes(700, 700, Create(if lent[0] || lent[1] { 1025 } else { 1024 }), &[]);
+        reads(700, Rank(v, past(700, y)), &[(x, BadValue), (y, Position)]);
+        reads(700, Select(v, if y { 700 } else { 699 }), &[(x, BadValue), (y, NotFound)]);
+        // a total that is below the ones: 6 by the total alone
+        reads(600, Select(v, if y { 600 } else { 599 }), &[(x, BadValue), (y, NotFound)]);
+        reads(if x { 699 } else { 700 }, Verify, &[(x, Unfit)]);
     }
 }
 
@@ -549,13 +550,13 @@ fn refusals_of_a_full_strip() {
     pair.compare();
 }
 
-/// With an `out` of fewer than five numbers nothing runs.
+/// With an `out` of fewer than six numbers nothing runs.
 #[test]
 fn short_out() {
     let mut pair = Pair::from_text(512, A);
     let changes =
         [Create(512), Push(1), Push(2), Flip(3), Flip(17), Fill(2, 9, 1), Fill(9, 2, 1), Truncate(4), Truncate(18)];
-    for room in 0..5 {
+    for room in 0..6 {
         for change in changes {
             pair.record.idle(pair.strip.handle(), change, room);
             pair.compare();
@@ -572,28 +573,39 @@ fn strip_of(record: &Record, h: Handle) -> Strip {
     Strip::new(h.capacity, bits)
 }
 
-/// The record fits, by its definition: zeros past the length, and every counter as defined for the words.
+/// The record fits, by its definition: zeros past the length, every counter as defined for the words, and as many ones as the
+/// total.
 fn fits(record: &Record, h: Handle) -> bool {
     let bits = model::bits_of(record.words());
-    bits[h.length as usize..].iter().all(|b| !b) && record.counters() == model::counters_of(h.capacity, &bits)
+    bits[h.length as usize..].iter().all(|b| !b)
+        && record.counters() == model::counters_of(h.capacity, &bits)
+        && h.total == model::number_of(&bits, true)
 }
 
-/// Adds or turns on any record: 9 and nothing changed, or no bit but the stroke's and no counter that does not count it.
-fn near(record: &Record, h: Handle, change: Change) {
+/// Adds or turns on any record: 9 and nothing changed, where a turn would take the total out of its range, or where the record
+/// does not fit; else the total moves with the bit, and no bit changes but the stroke's and no counter that does not count it.
+fn near(record: &Record, h: Handle, change: Change, fit: bool) {
     let mut copy = Record::new(record.words(), record.counters());
     let report = copy.change(h, change);
+    let bit = |p: u64| record.words()[p as usize / 64] / 2u64.pow(p as u32 % 64) % 2;
+    let (p, b, first, length, total) = match change {
+        Push(v) => (h.length, v, h.length, h.length + 1, Some(h.total + v)),
+        Flip(i) if bit(i) == 1 => (i, 0, 0, h.length, h.total.checked_sub(1)),
+        Flip(i) => (i, 1, 1, h.length, (h.total < h.length).then_some(h.total + 1)),
+        _ => unreachable!(),
+    };
     if report == refused(Unfit, h) {
+        assert!(!fit, "{change:?} under {h:?}");
         assert!(copy.words() == record.words() && copy.counters() == record.counters());
         return;
     }
-    let bit = |p: u64| record.words()[p as usize / 64] / 2u64.pow(p as u32 % 64) % 2;
-    let (p, b, first, length) = match change {
-        Push(v) => (h.length, v, h.length, h.length + 1),
-        Flip(i) => (i, 1 - bit(i), 1 - bit(i), h.length),
-        _ => unreachable!(),
-    };
     let (value, number) = report.told.unwrap();
-    assert_eq!((value, report.handle), (first, Handle { capacity: h.capacity, length }));
+    assert_eq!(
+        (value, report.handle.length, Some(report.handle.total)),
+        (first, length, total),
+        "{change:?} under {h:?}"
+    );
+    assert_eq!(report.handle.capacity, h.capacity);
     assert!(number <= 45);
     let mut words = record.words().to_vec();
     let weight = 2u64.pow(p as u32 % 64);
@@ -607,14 +619,15 @@ fn near(record: &Record, h: Handle, change: Change) {
     }
 }
 
-/// What count and find owe on any record: a value within bounds, 9 only where it does not fit.
+/// What count and find owe on any record: 6 exactly where length and total give too few of v; else a value within bounds, or 9
+/// where the record does not fit.
 fn any_reading(record: &mut Record, h: Handle, reading: Reading, fit: bool) {
     let told = record.read(h, reading);
     let allowed = match (reading, told) {
+        (Select(v, k), told) if k >= h.number_of(v == 1) => told == Err(NotFound),
         (_, Err(Unfit)) => !fit,
         (Rank(_, i), Ok(count)) => count <= i,
         (Select(..), Ok(position)) => position < h.length,
-        (Select(..), Err(NotFound)) => true,
         _ => false,
     };
     assert!(allowed, "{reading:?} under {h:?}: {told:?}");
@@ -632,6 +645,9 @@ fn any_record(random: &mut Random, record: &mut Record, h: Handle) {
     }
     for v in [0, 1] {
         any_reading(record, h, Rank(v, h.length), fit);
+        for k in beside(h.number_of(v == 1)).into_iter().chain([0]) {
+            any_reading(record, h, Select(v, k), fit);
+        }
         for k in FAR.into_iter().chain([h.length]) {
             assert_eq!(record.read(h, Select(v, k)), Err(NotFound), "k at or past the length");
         }
@@ -641,10 +657,10 @@ fn any_record(random: &mut Random, record: &mut Record, h: Handle) {
     assert!(record.words() == words && record.counters() == counters, "a reading changed the record");
     for v in [0, 1] {
         if h.length < h.capacity {
-            near(record, h, Push(v));
+            near(record, h, Push(v), fit);
         }
         if h.length > 0 {
-            near(record, h, Flip(place(random, h.length)));
+            near(record, h, Flip(place(random, h.length)), fit);
         }
     }
     // the refusals of the arguments come first
@@ -653,18 +669,21 @@ fn any_record(random: &mut Random, record: &mut Record, h: Handle) {
     reading_refused(record, h, Select(2, 0), BadValue);
     change_refused(record, h, Push(2), BadValue);
     change_refused(record, h, Flip(h.length), Position);
-    repaired(record, h, Fill(h.length, h.length, 1));
-    repaired(record, h, Truncate(h.length));
+    let [a, b] = [0; 2].map(|_| random.number_below(h.length + 1));
+    for change in [Fill(h.length, h.length, 1), Fill(a.min(b), a.max(b), a % 2), Truncate(h.length), Truncate(a)] {
+        repaired(record, h, change);
+    }
 }
 
-/// A run over an empty span, or a cut to the length, leaves a fitting record of the bits below the length.
+/// A run or a cut leaves a fitting record of the bits below the length, and their ones as the total.
 fn repaired(record: &Record, h: Handle, change: Change) {
     let mut copy = Record::new(record.words(), record.counters());
-    let strip = strip_of(record, h);
-    assert_eq!(copy.change(h, change), Report { told: Ok((strip.ones(), 0)), handle: h });
+    let mut strip = strip_of(record, h);
+    let told = strip.step(record.sizes(), change.into());
+    assert_eq!(copy.change(h, change), Report { told, handle: strip.handle() }, "{change:?} under {h:?}");
     let pair = Pair { strip, record: copy };
     pair.compare();
-    assert!(fits(&pair.record, h));
+    assert!(fits(&pair.record, pair.handle()));
 }
 
 /// The damages: each takes a fitting record under a handle, and gives the handle to read it under.
@@ -685,8 +704,11 @@ fn damage(kind: usize, random: &mut Random, record: &mut Record, h: Handle) -> H
         6 => record.counters_mut().fill(0),
         7 => record.words_mut().fill_with(|| random.number()),
         8 => record.words_mut()[random.below(word_count(h.capacity))] ^= 1 << random.below(64),
-        9 => return Handle { capacity: h.capacity, length: random.number_below(h.length + 1) },
-        10 => return Handle { capacity: h.capacity, length: h.capacity },
+        9 => {
+            let length = random.number_below(h.length + 1);
+            return Handle { length, total: h.total.min(length), ..h };
+        }
+        10 => return Handle { length: h.capacity, ..h },
         _ => {}
     }
     h
@@ -695,8 +717,58 @@ fn damage(kind: usize, random: &mut Random, record: &mut Record, h: Handle) -> H
 /// A record of a damaged strip of this length, held to what every call owes.
 fn damaged(random: &mut Random, kind: usize, capacity: u64, length: u64, share: usize) {
     let Pair { strip, mut record } = Pair::new(capacity, random.bits(length, share));
-    let h = damage(kind, random, &mut record, strip.handle());
+    let mut h = damage(kind, random, &mut record, strip.handle());
+    if random.below(2) == 0 {
+        let others = [h.total.saturating_sub(1), h.total + 1, 0, h.length, random.number_below(h.length + 1)];
+        h.total = others[random.below(others.len())].min(h.length);
+    }
     any_record(random, &mut record, h);
+}
+
+/// Every total, on a record that fits but for it and on damaged ones: what every call owes, and above the length 1.
+#[test]
+fn every_total() {
+    let mut cases = Cases::new("record", "every_total", 44);
+    for given in lengths(1024).into_iter().map(Some).chain([None; 4]) {
+        for (share, kind) in [0, 20, 500, 1000].into_iter().flat_map(|share| [11, 0, 1, 3, 7].map(|kind| (share, kind)))
+        {
+            cases.run(|random| {
+                let length = given.unwrap_or_else(|| random.number_below(1024));
+                let Pair { strip, mut record } = Pair::new(1024, random.bits(length, share));
+                let h = damage(kind, random, &mut record, strip.handle());
+                for h in totals(h, strip.ones()).into_iter().map(|total| h.with(total)) {
+                    if h.total > h.length {
+                        all_refused(&mut record, h, BadHandle);
+                    } else {
+                        any_record(random, &mut record, h);
+                    }
+                }
+            });
+        }
+    }
+}
+
+/// Every total of a short strip: each find, each turn and each add.
+#[test]
+fn every_find_and_turn() {
+    let mut cases = Cases::new("record", "every_find_and_turn", 45);
+    for length in [0, 1, 2, 63, 64, 65] {
+        for (share, kind) in [0, 500, 1000].into_iter().flat_map(|share| [11, 3, 7].map(|kind| (share, kind))) {
+            cases.run(|random| {
+                let Pair { strip, mut record } = Pair::new(512, random.bits(length, share));
+                damage(kind, random, &mut record, strip.handle());
+                for h in (0..=length).map(|total| strip.handle().with(total)) {
+                    let fit = fits(&record, h);
+                    for (v, k) in [0, 1].into_iter().flat_map(|v| (0..length + 2).map(move |k| (v, k))) {
+                        any_reading(&mut record, h, Select(v, k), fit);
+                    }
+                    for change in (0..length).map(Flip).chain([Push(0), Push(1)]) {
+                        near(&record, h, change, fit);
+                    }
+                }
+            });
+        }
+    }
 }
 
 #[test]

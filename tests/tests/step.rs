@@ -24,7 +24,8 @@ fn refusals(opcode: Opcode) -> &'static [Refusal] {
     match opcode {
         Create => &[BadHandle, WordCount, CounterCount],
         Push => &[BadHandle, WordCount, CounterCount, Full, BadValue],
-        Flip | Truncate => &[BadHandle, WordCount, CounterCount, Position],
+        Flip => &[BadHandle, WordCount, CounterCount, Position, Unfit],
+        Truncate => &[BadHandle, WordCount, CounterCount, Position],
         Fill => &[BadHandle, WordCount, CounterCount, Position, Span, BadValue],
         Get => &[BadHandle, WordCount, Position],
         Rank => &[BadHandle, WordCount, CounterCount, Position, BadValue],
@@ -59,7 +60,7 @@ struct State {
 impl State {
     /// The strip under the handle: the first bits of the words.
     fn strip(&self) -> Strip {
-        let bits = (0..self.handle.length as usize).map(|p| self.words[p / 64] >> (p % 64) & 1 == 1).collect();
+        let bits = (0..self.handle.length).map(|p| self.bit(p)).collect();
         Strip::new(self.handle.capacity, bits)
     }
 
@@ -70,10 +71,15 @@ impl State {
         self.counters = strip.counters();
     }
 
-    /// A record of the right lengths fits when it is laid afresh from its strip.
+    /// A record of the right lengths fits when it is laid afresh from its strip and the total is its ones.
     fn fits(&self) -> bool {
         let strip = self.strip();
-        strip.words() == self.words && strip.counters() == self.counters
+        strip.handle() == self.handle && strip.words() == self.words && strip.counters() == self.counters
+    }
+
+    /// The bit at a position.
+    fn bit(&self, p: u64) -> bool {
+        self.words[p as usize / 64] >> (p % 64) & 1 == 1
     }
 
     /// How many words and counters are lent.
@@ -90,14 +96,13 @@ impl State {
     fn step(&self, call: Call) -> (Values, State) {
         let mut buffers = Buffers::new(&self.words, &self.counters, &self.image);
         let out = buffers.step(call, self.handle, 8);
-        assert!(out[5..].iter().all(|number| *number == UNTOUCHED), "{call:?} wrote past the five numbers");
-        let handle = Handle { capacity: out[3], length: out[4] };
+        assert!(out[6..].iter().all(|number| *number == UNTOUCHED), "{call:?} wrote past the six numbers");
         let (words, counters, image) =
             (buffers.words().to_vec(), buffers.counters().to_vec(), buffers.image().to_vec());
-        (values(&out), State { handle, words, counters, image })
+        (values(&out), State { handle: Handle::told(&out), words, counters, image })
     }
 
-    /// Runs it with room for fewer than five numbers, and asserts that nothing happens.
+    /// Runs it with room for fewer than six numbers, and asserts that nothing happens.
     fn idle(&self, call: Call, room: usize) {
         let mut buffers = Buffers::new(&self.words, &self.counters, &self.image);
         let out = buffers.step(call, self.handle, room);
@@ -155,15 +160,19 @@ fn on_row(before: &State, call: Call) -> Option<Values> {
     (row.right || !free).then_some(told)
 }
 
-/// A call from add to check, after 1 to 3; on a record that does not fit add, turn, count and find are free, but for a k
-/// at or past the length.
+/// A call from add to check, after 1 to 3; on a record that does not fit add, turn, count and find are free, but for a find's 6
+/// and a turn's 9, which length and total decide.
 fn on_strip(after: &mut State, call: Call) -> Option<Values> {
     let mut strip = after.strip();
-    let opcode = call.opcode();
+    let (opcode, h) = (call.opcode(), after.handle);
     let told = strip.step(after.sizes(), call);
     let free = match opcode {
-        Push | Flip | Rank => told.is_ok(),
-        Select => told != Err(BadValue) && call.y < after.handle.length,
+        Push | Rank => told.is_ok(),
+        // the number of the bit's own value is one less afterwards
+        Flip if told.is_ok() && h.number_of(after.bit(call.x)) == 0 => return Some(Err(Unfit)),
+        Flip => told.is_ok(),
+        Select if told != Err(BadValue) && call.y >= h.number_of(call.x == 1) => return Some(Err(NotFound)),
+        Select => told != Err(BadValue),
         _ => false,
     };
     if (free || opcode == Verify) && !after.fits() {
@@ -182,10 +191,7 @@ fn within(before: &State, call: Call, told: Values, after: &State) -> bool {
         Push | Flip if told != Err(Unfit) => near(before, call, told, after),
         Push | Flip => after == before,
         Rank => after == before && (told == Err(Unfit) || below(call.y + 1)),
-        Select => {
-            let length = before.handle.length;
-            after == before && (told == Err(NotFound) || told == Err(Unfit) || below(length))
-        }
+        Select => after == before && (told == Err(Unfit) || below(before.handle.length)),
         RowRank => after == before && (told == Err(WrongRow) || below(call.z + 1)),
         RowSelect => {
             let length = layout::row(&before.image, call.x).map_or(0, |row| model::length(&row.bits));
@@ -195,17 +201,18 @@ fn within(before: &State, call: Call, told: Values, after: &State) -> bool {
     }
 }
 
-/// Add and turn on a record that does not fit: no bit changed but the stroke's, no counter that does not count it, and at
-/// most 45 told.
+/// Add and turn on a record that does not fit: the total moved with the bit, no bit changed but the stroke's, no counter that
+/// does not count it, and at most 45 told.
 fn near(before: &State, call: Call, told: Values, after: &State) -> bool {
-    let Handle { capacity, length } = before.handle;
+    let Handle { capacity, length, total } = before.handle;
     let adds = call.opcode() == Push;
     let p = if adds { length } else { call.x };
     let word = p as usize / 64;
     let weight = 1 << (p % 64);
-    let turned = before.words[word] & weight == 0;
+    let turned = !before.bit(p);
     let (bit, first, grown) = if adds { (call.x == 1, length, 1) } else { (turned, u64::from(turned), 0) };
-    let handle = Handle { capacity, length: length + grown };
+    let total = if bit { total + 1 } else { total - u64::from(!adds) };
+    let handle = Handle { capacity, length: length + grown, total };
     let mut wanted = State { handle, counters: after.counters.clone(), ..before.clone() };
     wanted.words[word] = if bit { wanted.words[word] | weight } else { wanted.words[word] & !weight };
     let counting = model::counting(capacity, p);
@@ -273,7 +280,7 @@ fn sound(random: &mut Random, capacity: u64, rows: &[(usize, u64, Vec<bool>)]) -
 
 /// The record: bits past the length, bits below it, counters.
 fn damage_record(random: &mut Random, state: &mut State) {
-    let Handle { capacity, length } = state.handle;
+    let Handle { capacity, length, .. } = state.handle;
     for _ in 0..1 + random.below(3) {
         let x = random.below(state.counters.len());
         match random.below(10) {
@@ -293,9 +300,18 @@ fn damage_record(random: &mut Random, state: &mut State) {
     }
 }
 
+/// The total: wrong by one, none, all, any up to the length, or above it.
+fn damage_total(random: &mut Random, handle: &mut Handle) {
+    let Handle { length, total, .. } = *handle;
+    let drawn = random.number_below(length + 1);
+    let good = [total.saturating_sub(1), (total + 1).min(length), 0, length, drawn];
+    let above = [length + 1, WIDE + total, WIDE, 1 << 63, u64::MAX];
+    handle.total = if random.below(4) == 0 { above[random.below(5)] } else { good[random.below(5)] };
+}
+
 /// The handle and the numbers of words and counters: a capacity not allowed, a length above it or another, other numbers.
 fn damage_lengths(random: &mut Random, state: &mut State) {
-    let Handle { capacity, length } = state.handle;
+    let Handle { capacity, length, total } = state.handle;
     let (words, counters) = state.sizes();
     match random.below(8) {
         0 => {
@@ -307,7 +323,10 @@ fn damage_lengths(random: &mut Random, state: &mut State) {
             let all = [&[capacity + 1, WIDE + length][..], &FAR].concat();
             state.handle.length = all[random.below(all.len())];
         }
-        2 => state.handle.length = random.number_below(capacity + 1),
+        2 => {
+            state.handle.length = random.number_below(capacity + 1);
+            state.handle.total = total.min(state.handle.length);
+        }
         3 => state.handle.capacity = [capacity + 512, 2 * capacity, TWO_LEVELS, LARGEST][random.below(4)],
         4 => state.words.resize([0, words - 1, words + 1, 2 * words][random.below(4)], 5),
         5 => state.counters.resize([0, counters - 1, counters + 1, counters + 72][random.below(4)], 5),
@@ -388,6 +407,9 @@ fn some_state(random: &mut Random, capacity: u64) -> (State, Vec<Frozen>) {
     if random.below(4) == 0 {
         damage_lengths(random, &mut state);
     }
+    if state.handle.length <= LARGEST && random.below(3) == 0 {
+        damage_total(random, &mut state.handle);
+    }
     (state, rows.into_iter().map(|(_, label, bits)| (label, bits)).collect())
 }
 
@@ -408,11 +430,11 @@ fn walk(random: &mut Random, capacity: u64, steps: usize, tally: &mut Tallies) {
     let first = state.image.clone();
     for number in 0..steps {
         at_call(number);
-        let strip = if state.check(false).is_ok() { state.strip().bits } else { Vec::new() };
+        let strip = if state.check(false).is_ok() { state.strip().bits().to_vec() } else { Vec::new() };
         let scene = Scene { capacity: state.handle.capacity, strip: &strip, rows: &rows };
         let opcode = OPCODES[random.below(CALLS)];
         let call = draw::call(random, opcode, &scene);
-        state.idle(call, random.below(5));
+        state.idle(call, random.below(6));
         let after = hold(&state, call, tally);
         if random.below(8) == 0 {
             state = after;

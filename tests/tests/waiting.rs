@@ -2,13 +2,13 @@
 //! walk over the cells, and against answers worked out by hand.
 use std::collections::BTreeSet;
 use std::ptr::null;
-use strip_tests::borders::{beside, lengths, BAD_CAPACITIES, FAR, LARGEST, ONE_LEVEL, TWO_LEVELS, WIDE};
+use strip_tests::borders::{self, beside, lengths, FAR, LARGEST, ONE_LEVEL, TWO_LEVELS, WIDE};
 use strip_tests::cases::{at_call, Cases};
 use strip_tests::model::{self, word_count};
 use strip_tests::random::Random;
 use strip_tests::record::UNTOUCHED;
 use strip_tests::refusal::{Bounded, Bounds, Refusal};
-use strip_tests::strip::{both_handles, Strip};
+use strip_tests::strip::{both_handles, both_totals, Strip, HANDLE_FAULTS};
 use strip_tests::tally::Tally;
 use strip_tests::waiting::{Waiting, WAITING};
 use strip_tests::{draw, Handle, Lent};
@@ -179,7 +179,7 @@ fn extremes() {
         (LARGEST, LARGEST - 1),
         (LARGEST, LARGEST),
     ] {
-        let (h, n) = (Handle { capacity, length }, length);
+        let (h, n) = (Handle::new(capacity, length), length);
         let mut words = vec![u64::MAX; word_count(capacity)];
         for (place, word) in (0..).zip(&mut words) {
             let ones = length.saturating_sub(64 * place).min(64);
@@ -364,7 +364,7 @@ fn flipped(strip: &Strip, waiting: &Strip) -> Strip {
 /// Counts around 0, the ends of words and blocks, the length and the capacity; finds around the first, the borders between
 /// the three kinds of answer and the length; both far past, and some at random.
 fn calls(random: &mut Random, strip: &Strip, waiting: &Strip, at_random: usize) -> Vec<Waiting> {
-    let Handle { capacity, length } = strip.handle;
+    let Handle { capacity, length, .. } = strip.handle;
     let (sure, possible) = ones(strip, waiting);
     let mut list: Vec<Waiting> = both_at(FAR).collect();
     let ends = [0, 64, 512, length / 64 * 64, length, capacity, WIDE, WIDE + length];
@@ -442,6 +442,26 @@ fn all_marked() {
     }
 }
 
+/// Every total of either strip: up to the length the answers are the same under each, above it all is refused.
+#[test]
+fn every_total() {
+    let mut cases = Cases::new("waiting", "every_total", 610);
+    for given in lengths(1024).into_iter().map(Some).chain([None; 4]) {
+        for density in [(0, Marks::Any(0)), (20, Marks::Any(500)), (1000, Marks::Any(1000))] {
+            cases.run(|random| {
+                let length = given.unwrap_or_else(|| random.number_below(1024));
+                let [mut strip, mut waiting] = drawn(random, 1024, length, density, (500, 500));
+                for (total, other) in both_totals(&strip, &waiting) {
+                    (strip.handle.total, waiting.handle.total) = (total, other);
+                    for call in both_at([0, random.number_below(length + 1), length, length + 1]) {
+                        let _ = compare(call, &mut strip, &mut waiting);
+                    }
+                }
+            });
+        }
+    }
+}
+
 /// Every i and every k of small strips.
 #[test]
 fn every_position() {
@@ -510,7 +530,7 @@ fn one_buffer() {
         cases.run(|random| {
             let bits = random.bits(2048, 500);
             let mut lent = Lent::new(&model::words_of(&bits));
-            let h = Handle { capacity: 1024, length };
+            let h = Handle::new(1024, length);
             let strokes = &bits[..length as usize];
             for x in 0..length + 2 {
                 // each one of the strip waits
@@ -557,15 +577,11 @@ fn both_ways_refuse(strip: &mut Strip, waiting: &mut Strip, refusal: Refusal) {
 /// A bad handle beside a good strip, and beside itself.
 #[test]
 fn bad_handles() {
-    let above =
-        [512, 1024, LARGEST].into_iter().flat_map(|c| [c + 1, c + 512].into_iter().chain(FAR).map(move |n| (c, n)));
-    let capacities = BAD_CAPACITIES.into_iter().flat_map(|c| [0, 1, 512, c, u64::MAX].map(|n| (c, n)));
-    for (capacity, length) in above.chain(capacities) {
+    for h in borders::bad_handles() {
         for count in [0, 7, 8, 16] {
-            let mut bad = Strip::of_words(capacity, length, count, true);
-            let mut same = Strip::of_words(capacity, length, count, false);
+            let [mut bad, mut same] = [true, false].map(|bit| Strip::under(h, vec![bit; 64 * count]));
             both_ways_refuse(&mut bad, &mut same, BadHandle);
-            for good in [(512, 0), (512, 512), (1024, length.min(1024))] {
+            for good in [(512, 0), (512, 512), (1024, h.length.min(1024))] {
                 both_ways_refuse(&mut bad, &mut Strip::filled(good.0, good.1, true), BadHandle);
             }
         }
@@ -690,10 +706,10 @@ fn pairs_of_refusals() {
 fn first_refusal_wins() {
     for faults in 0..256 {
         let has = |n: u32| faults / 2u32.pow(n) % 2 == 1;
-        for way in 0..6 {
+        for way in 0..HANDLE_FAULTS {
             let fault = |n: u32| has(n).then_some(way);
-            let strip = Handle { capacity: 1024, length: 700 };
-            let waiting = Handle { capacity: if has(4) { 1536 } else { 1024 }, length: if has(5) { 701 } else { 700 } };
+            let strip = Handle::new(1024, 700);
+            let waiting = Handle::new(if has(4) { 1536 } else { 1024 }, if has(5) { 701 } else { 700 });
             let mut strip = Strip::faulty(strip, fault(0), fault(1), true);
             let mut waiting = Strip::faulty(waiting, fault(2), fault(3), has(6));
             let wanted = |own: Refusal, value: Bounded| {
@@ -719,8 +735,8 @@ fn first_refusal_wins() {
 /// Where no words are lent for a strip, the pointer may be null.
 #[test]
 fn no_words() {
-    let good = (Handle { capacity: 512, length: 0 }, [0u64; 8]);
-    let no_words = |capacity, length| (Handle { capacity, length }, null(), 0);
+    let good = (Handle::new(512, 0), [0u64; 8]);
+    let no_words = |capacity, length| (Handle::new(capacity, length), null(), 0);
     for call in WAITING {
         let some = (good.0, good.1.as_ptr(), good.1.len());
         for (strip, waiting, refusal) in [

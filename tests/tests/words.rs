@@ -1,7 +1,5 @@
 //! look, next, prior and the word select, against the plain model and against answers worked out by hand.
-use strip_tests::borders::{
-    beside, lengths, BAD_CAPACITIES, FAR, LARGEST, ONE_LEVEL, THREE_LEVELS, TWO_LEVELS, VALUES,
-};
+use strip_tests::borders::{self, beside, lengths, totals, FAR, LARGEST, ONE_LEVEL, THREE_LEVELS, TWO_LEVELS, VALUES};
 use strip_tests::cases::Cases;
 use strip_tests::model;
 use strip_tests::random::Random;
@@ -18,7 +16,7 @@ struct Strip {
 
 impl Strip {
     fn new(length: u64, bits: Vec<bool>) -> Strip {
-        let handle = Handle { capacity: model::length(&bits), length };
+        let handle = Handle::new(model::length(&bits), length);
         let lent = Lent::new(&model::words_of(&bits));
         Strip { handle, bits, lent }
     }
@@ -155,6 +153,30 @@ fn strips() {
     }
 }
 
+/// Every total: up to the length the answers are the same under each, above it all is refused.
+#[test]
+fn every_total() {
+    let mut cases = Cases::new("words", "every_total", 5);
+    for given in lengths(1024).into_iter().map(Some).chain([None; 6]) {
+        for share in [0, 20, 500, 1000] {
+            cases.run(|random| {
+                let length = given.unwrap_or_else(|| random.number_below(1024));
+                let bits = [random.bits(length, share), random.bits(1024 - length, 500)].concat();
+                let ones = model::number_of(&bits[..length as usize], true);
+                let mut strip = Strip::new(length, bits);
+                for total in totals(strip.handle, ones) {
+                    strip.handle.total = total;
+                    for i in positions(random, strip.handle, 5) {
+                        for v in VALUES {
+                            strip.compare(v, i);
+                        }
+                    }
+                }
+            });
+        }
+    }
+}
+
 /// Every position of small strips.
 #[test]
 fn every_position() {
@@ -256,15 +278,8 @@ fn all_refuse(lent: &mut Lent, h: Handle, refusal: Refusal) {
 fn bad_handles() {
     for count in [0, 4, 7, 8, 9, 12, 16] {
         let mut lent = Lent::new(&vec![u64::MAX; count]);
-        for capacity in BAD_CAPACITIES {
-            for length in [0, 1, 512, capacity, u64::MAX] {
-                all_refuse(&mut lent, Handle { capacity, length }, BadHandle);
-            }
-        }
-        for capacity in [512, 1024, LARGEST] {
-            for length in [capacity + 1, capacity + 512].into_iter().chain(FAR) {
-                all_refuse(&mut lent, Handle { capacity, length }, BadHandle);
-            }
+        for h in borders::bad_handles() {
+            all_refuse(&mut lent, h, BadHandle);
         }
     }
 }
@@ -276,22 +291,24 @@ fn wrong_word_counts() {
         for count in [0, 1, words - 1, words + 1, 2 * words, 64 * words] {
             let mut lent = Lent::new(&vec![u64::MAX; count]);
             for length in [0, 1, capacity - 1, capacity] {
-                all_refuse(&mut lent, Handle { capacity, length }, WordCount);
+                all_refuse(&mut lent, Handle::new(capacity, length), WordCount);
             }
         }
     }
     let mut lent = Lent::new(&[u64::MAX; 8]);
-    all_refuse(&mut lent, Handle { capacity: LARGEST, length: 100 }, WordCount);
+    all_refuse(&mut lent, Handle::new(LARGEST, 100), WordCount);
 }
 
-/// Every set of faults at once: the first in the order 1, 2, 8, 4, 6 is the answer.
+/// Every set of faults at once, the handle's being its length or its total: the first in the order 1, 2, 8, 4, 6 is the
+/// answer.
 #[test]
 fn first_refusal_wins() {
-    for faults in 0..32 {
+    for faults in 0..64 {
         let has = |n: u32| faults / 2u32.pow(n) % 2 == 1;
-        let [handle, words, value, position, absent] = [has(0), has(1), has(2), has(3), has(4)];
-        let length = if handle { 1025 } else { 700 };
-        let h = Handle { capacity: 1024, length };
+        let [words, value, position, absent, above, long] = [has(0), has(1), has(2), has(3), has(4), has(5)];
+        let handle = above || long;
+        let length = if long { 1025 } else { 700 };
+        let h = Handle::new(1024, length).with(length + u64::from(above));
         let mut lent = Lent::new(&vec![if absent { 0 } else { u64::MAX }; if words { 15 } else { 16 }]);
         let v = if value { 2 } else { 1 };
         let i = length + u64::from(position);

@@ -8,13 +8,13 @@ use native.Mathlib.Omega.{arith}
 use lib.ListN.{length, getD, replicate, length-append, List·getD-append, List·getD-eq-default, replicate-append-replicate}
 use lib.Seq.{getD-append-add, ext-getD}
 use Rattle.words.specs.Bits.{bit, bitAt, ones, digits, listOf}
-use Rattle.words.specs.Strip.{cell, stripOf}
+use Rattle.words.specs.Strip.{cell, stripOf, totalOf}
 use Rattle.words.specs.Handles.{handleOf}
 use Rattle.words.specs.declared.handle.Handle.{Handle}
 use Rattle.words.proofs.Sums.{lt-or, sum-none, sum-flat, ones-le, listOf-is, length-listOf, getD-listOf}
 use Rattle.words.proofs.WordLaws.{word-bit, bitAt-past}
 use Rattle.words.proofs.DigitLaws.{field, digits-ext, digits-at, digits-of}
-use Rattle.words.proofs.StripLaws.{strip-cell, strip-length}
+use Rattle.words.proofs.StripLaws.{strip-cell, strip-length, strip-total}
 use Rattle.counters.specs.Tree.{blocksOf, nodes, height, childBits, childOnes, fromChild, toChild, counter, total, counterCount, indexOf, levels}
 use Rattle.counters.specs.Record.{Fits, packedWords, builtCounters}
 use Rattle.counters.proofs.TreeLaws.{total-zero, total-suc, total-mono, counter-children, counter-prefix, index-is, index-cover}
@@ -141,6 +141,7 @@ module _ (c : ℕ) (s : List ℕ) (whole : c % 512 ≡ 0) (within : length s ≤
       record {
         clean = (λ p l. bitAt-packed p ∙ List·getD-eq-default s 0 {n = p} l);
         right = (λ t j i a b d e. counters-at c s t j i a b d e ∙ counter-ext (cell s) (bitAt (packedWords c s)) t j i (λ p. sym (bitAt-packed p)));
+        held = ap totalOf (sym strip-packed);
       }
 
 -- ---- a record that fits
@@ -152,6 +153,10 @@ fits-cell h ws cs fit p = go (lt-or p (h .length))
     go (inl l) = strip-cell ws (h .length) p l
     go (inr l) =
         List·getD-eq-default (stripOf ws (h .length)) 0 {n = p} (omega (arith, strip-length ws (h .length))) ∙ sym (fit .clean p l)
+
+-- its total is the ones of its words before the length
+pub fits-total : (h : Handle) (ws cs : List ℕ) → Fits h ws cs → h .total ≡ ones (bitAt ws) (h .length)
+fits-total h ws cs fit = fit .held ∙ strip-total ws (h .length)
 
 -- it is the one laid afresh from its strip
 pub fits-built : (h : Handle) (ws cs : List ℕ) → length ws ≡ h .capacity / 64 → length cs ≡ counterCount (blocksOf (h .capacity))

@@ -14,7 +14,7 @@ use lib.Seq.{getD-append-add, getD-set-same, getD-set-other, getD-take, length-t
 use borrow.Author.Tests.{leb-false, ltb-false}
 use Rattle.words.specs.Strip.{cell}
 use Rattle.words.specs.Refusals.{_⇒_, judge}
-use Rattle.words.specs.Handles.{handle}
+use Rattle.words.specs.Handles.{handleOf}
 use Rattle.words.specs.Calls.{valueLine, belowLine, withinLine, spanLine}
 use Rattle.words.specs.declared.handle.Handle.{Handle}
 use Rattle.words.proofs.Sums.{lt-or, length-listOf, getD-listOf}
@@ -74,19 +74,19 @@ take-bits n s h bits =
 
 -- ---- the record after each change
 -- lay
-pub create-again : (c : ℕ) (ws cs : List ℕ) → judge (checks (handle c 0) (length ws) (length cs)) ≡ none
-    → Fits (handle c 0) (replicate (length ws) 0) (replicate (length cs) 0)
+pub create-again : (c : ℕ) (ws cs : List ℕ) → judge (checks (handleOf c []) (length ws) (length cs)) ≡ none
+    → Fits (handleOf c []) (replicate (length ws) 0) (replicate (length cs) 0)
 create-again c ws cs pass =
-    let z = sizes (handle c 0) ws cs pass in
+    let z = sizes (handleOf c []) ws cs pass in
     let none : (p : ℕ) → cell [] p ≤ 1 = (λ p. omega arith) in
     let w : packedWords c [] ≡ replicate (length ws) 0 = words-zero c ∙ ap (λ (n : ℕ). replicate n 0) (sym (z .words)) in
     let k : builtCounters c [] ≡ replicate (length cs) 0 = counters-zero c ∙ ap (λ (n : ℕ). replicate n 0) (sym (z .counters)) in
-    subst (λ (x : List ℕ). Fits (handle c 0) (replicate (length ws) 0) x) k
-    (subst (λ (x : List ℕ). Fits (handle c 0) x (builtCounters c [])) w (built-fits c [] (z .step) (omega arith) none))
+    subst (λ (x : List ℕ). Fits (handleOf c []) (replicate (length ws) 0) x) k
+    (subst (λ (x : List ℕ). Fits (handleOf c []) x (builtCounters c [])) w (built-fits c [] (z .step) (omega arith) none))
 
 -- add
 pub push-again : (h : Handle) (ws cs : List ℕ) (v : ℕ) → judge (pushTable h (length ws) (length cs) v) ≡ none
-    → Fits (handle (h .capacity) (length (heldStrip h ws ++ (v ∷ [])))) (packedWords (h .capacity) (heldStrip h ws ++ (v ∷ [])))
+    → Fits (handleOf (h .capacity) (heldStrip h ws ++ (v ∷ []))) (packedWords (h .capacity) (heldStrip h ws ++ (v ∷ [])))
     (builtCounters (h .capacity) (heldStrip h ws ++ (v ∷ [])))
 push-again h ws cs v pass =
     let ls = valueLine v ∷ (leb (h .capacity) (h .length) ⇒ 7) ∷ [] in
@@ -101,7 +101,7 @@ push-again h ws cs v pass =
 
 -- turn
 pub flip-again : (h : Handle) (ws cs : List ℕ) (i : ℕ) → judge (flipTable h (length ws) (length cs) i) ≡ none
-    → Fits (handle (h .capacity) (length (set (heldStrip h ws) i (1 - cell (heldStrip h ws) i))))
+    → Fits (handleOf (h .capacity) (set (heldStrip h ws) i (1 - cell (heldStrip h ws) i)))
     (packedWords (h .capacity) (set (heldStrip h ws) i (1 - cell (heldStrip h ws) i))) (builtCounters (h .capacity) (set (heldStrip h ws) i (1 - cell (heldStrip h ws) i)))
 flip-again h ws cs i pass =
     let z = sizes-of h ws cs (belowLine (h .length) i ∷ []) pass in
@@ -112,7 +112,7 @@ flip-again h ws cs i pass =
 
 -- run
 pub fill-again : (h : Handle) (ws cs : List ℕ) (a b v : ℕ) → judge (fillTable h (length ws) (length cs) a b v) ≡ none
-    → Fits (handle (h .capacity) (length (filled (heldStrip h ws) a b v))) (packedWords (h .capacity) (filled (heldStrip h ws) a b v))
+    → Fits (handleOf (h .capacity) (filled (heldStrip h ws) a b v)) (packedWords (h .capacity) (filled (heldStrip h ws) a b v))
     (builtCounters (h .capacity) (filled (heldStrip h ws) a b v))
 fill-again h ws cs a b v pass =
     let ls = valueLine v ∷ spanLine a b ∷ withinLine (h .length) b ∷ [] in
@@ -124,7 +124,7 @@ fill-again h ws cs a b v pass =
 
 -- cut
 pub truncate-again : (h : Handle) (ws cs : List ℕ) (n : ℕ) → judge (truncateTable h (length ws) (length cs) n) ≡ none
-    → Fits (handle (h .capacity) (length (take n (heldStrip h ws)))) (packedWords (h .capacity) (take n (heldStrip h ws)))
+    → Fits (handleOf (h .capacity) (take n (heldStrip h ws))) (packedWords (h .capacity) (take n (heldStrip h ws)))
     (builtCounters (h .capacity) (take n (heldStrip h ws)))
 truncate-again h ws cs n pass =
     let z = sizes-of h ws cs (withinLine (h .length) n ∷ []) pass in

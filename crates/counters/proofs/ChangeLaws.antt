@@ -1,31 +1,31 @@
 -- What a change leaves: the strip that the changed words hold, that the record fits again, and that it is then the one laid afresh.
 -- Assumes nothing.
-use mathlib.Core.Path.{_≡_, sym, ap, ap₂, _∙_}
+use mathlib.Core.Path.{_≡_, refl, sym, ap, ap₂, _∙_}
 use mathlib.Core.Bool.{Bool, true, false, cond, _&&_}
 use mathlib.Core.Logic.{_⊎_, inl, inr}
 use mathlib.Core.List.{List, [], _∷_, _++_}
-use Prim.Native.Nat.{ℕ, _+_, _*_, _/_, _^_, _≤_, _<_}
+use Prim.Native.Nat.{ℕ, _+_, _-_, _*_, _/_, _^_, _≤_, _<_}
 use native.Mathlib.Nat.{mod-eq-of-lt, le-refl}
 use native.Mathlib.Decide.{ℕ-discrete}
 use native.Mathlib.Omega.{arith}
-use lib.Dec.{leb, ltb}
+use lib.Dec.{leb, ltb, eqb}
 use lib.ListN.{length, getD, set, take, length-append, length-set, List·getD-append}
-use lib.Seq.{getD-append-add, getD-set-same, getD-set-other, getD-take, length-take-le}
-use borrow.Author.Tests.{le-leb, lt-leb, lt-ltb, le-ltb}
+use lib.Seq.{getD-append-add, getD-append-seam, getD-set-same, getD-set-other, getD-take, length-take-le}
+use borrow.Author.Tests.{le-leb, lt-leb, lt-ltb, le-ltb, eq-eqb, ne-eqb}
 use Rattle.words.specs.Bits.{bitAt, ones, listOf}
-use Rattle.words.specs.Strip.{cell, stripOf, PastZero, rank}
+use Rattle.words.specs.Strip.{cell, stripOf, PastZero, holds, rankOf, totalOf}
 use Rattle.words.specs.Handles.{handle}
 use Rattle.words.specs.Working.{RangePut}
-use Rattle.words.proofs.Sums.{lt-or, sum-flat, listOf-is, length-listOf, getD-listOf}
-use Rattle.words.proofs.WordLaws.{bitAt-le, bitAt-past}
-use Rattle.words.proofs.SearchLaws.{rank-ones}
-use Rattle.words.proofs.StripLaws.{strip-length, strip-cell, strip-rank}
+use Rattle.words.proofs.Sums.{lt-or, sum-more, sum-flat, listOf-is, length-listOf, getD-listOf}
+use Rattle.words.proofs.WordLaws.{bitAt-past, holds-yes, holds-no, holds-one}
+use Rattle.words.proofs.SearchLaws.{rank-ext}
+use Rattle.words.proofs.StripLaws.{total-rank, strip-length, strip-cell, strip-total}
 use Rattle.counters.specs.Tree.{blocksOf, counter, counterCount, indexOf, counts}
 use Rattle.counters.specs.Record.{packedWords, builtCounters, AllFit}
 use Rattle.counters.specs.Working.{movedBy, PathMovedBy}
 use Rattle.counters.specs.Promises.{done, outcome, BitPut, PathMoved}
 use Rattle.counters.specs.Calls.{rebuilt, filled}
-use Rattle.counters.proofs.FlipLaws.{OneMore, counter-flip}
+use Rattle.counters.proofs.FlipLaws.{OneMore, ones-flip, counter-flip}
 use Rattle.counters.proofs.AfreshLaws.{counter-ext, counter-lt, fits-built}
 
 -- ---- one position written
@@ -144,16 +144,70 @@ path-moved n p d cs ds path =
     }
 
 -- ---- the record laid afresh
-pub rebuilt-is : (c m x y : ℕ) (s vs ds : List ℕ) → stripOf vs m ≡ s → length vs ≡ c / 64 → length ds ≡ counterCount (blocksOf c)
-    → ((k : ℕ) → getD vs k 0 < 2 ^ 64) → PastZero vs m → AllFit (bitAt vs) (blocksOf c) ds
-    → outcome (done (handle c m) x y) vs ds ≡ rebuilt c s x y
-rebuilt-is c m x y s vs ds e lv ld small clean fit =
-    let built = fits-built (handle c m) vs ds lv ld small (record { clean = clean; right = fit }) in
+pub rebuilt-is : (c m t x y : ℕ) (s vs ds : List ℕ) → stripOf vs m ≡ s → length vs ≡ c / 64 → length ds ≡ counterCount (blocksOf c)
+    → ((k : ℕ) → getD vs k 0 < 2 ^ 64) → PastZero vs m → AllFit (bitAt vs) (blocksOf c) ds → t ≡ totalOf s
+    → outcome (done (handle c m t) x y) vs ds ≡ rebuilt c s x y
+rebuilt-is c m t x y s vs ds e lv ld small clean fit count =
+    let held : t ≡ totalOf (stripOf vs m) = count ∙ ap totalOf (sym e) in
+    let built = fits-built (handle c m t) vs ds lv ld small (record { clean = clean; right = fit; held = held }) in
     let n : m ≡ length s = sym (strip-length vs m) ∙ ap length e in
-    ap₂ (λ (h : ℕ) (w : List ℕ). outcome (done (handle c h) x y) w ds) n (built .0 ∙ ap (packedWords c) e)
-    ∙ ap (λ (d : List ℕ). outcome (done (handle c (length s)) x y) (packedWords c s) d) (built .1 ∙ ap (builtCounters c) e)
+    ap₂ (λ (h : ℕ) (w : List ℕ). outcome (done (handle c h t) x y) w ds) n (built .0 ∙ ap (packedWords c) e)
+    ∙ ap₂ (λ (u : ℕ) (d : List ℕ). outcome (done (handle c (length s) u) x y) (packedWords c s) d) count (built .1 ∙ ap (builtCounters c) e)
 
 -- ---- the ones held
-pub held-ones : (vs : List ℕ) (n c : ℕ) (s : List ℕ) → stripOf vs n ≡ s → n ≤ c → PastZero vs n → ones (bitAt vs) c ≡ rank s 1 n
-held-ones vs n c s e h clean =
-    sum-flat (bitAt vs) n c h clean ∙ sym (rank-ones (bitAt vs) n (bitAt-le vs)) ∙ sym (strip-rank vs n 1 n (le-refl n)) ∙ ap (λ (t : List ℕ). rank t 1 n) e
+pub held-ones : (vs : List ℕ) (n c : ℕ) (s : List ℕ) → stripOf vs n ≡ s → n ≤ c → PastZero vs n → ones (bitAt vs) c ≡ totalOf s
+held-ones vs n c s e h clean = sum-flat (bitAt vs) n c h clean ∙ sym (strip-total vs n) ∙ ap totalOf e
+
+-- ---- the total after a change
+-- a bit appended is added
+pub push-total : (s : List ℕ) (v : ℕ) → v ≤ 1 → totalOf (s ++ (v ∷ [])) ≡ totalOf s + v
+push-total s v small =
+    total-rank (s ++ (v ∷ [])) (length s + 1) (length-append s (v ∷ []))
+    ∙ omega (
+      arith,
+      sum-more (holds (cell (s ++ (v ∷ []))) 1) (length s),
+      rank-ext (cell (s ++ (v ∷ []))) (cell s) 1 (length s) (λ p l. List·getD-append s (v ∷ []) 0 p l),
+      total-rank s (length s) refl,
+      holds-one (cell (s ++ (v ∷ []))) (length s) (omega (arith, last)),
+      last,
+    )
+  where
+    last : cell (s ++ (v ∷ [])) (length s) ≡ v
+    last = getD-append-seam s v [] 0
+
+-- a one more where there was none
+one-more : (s t : List ℕ) (i : ℕ) → length t ≡ length s → i < length s → cell s i ≡ 0 → cell t i ≡ 1 → ((q : ℕ) → (q ≡ i → ⊥) → cell t q ≡ cell s q)
+    → totalOf t ≡ totalOf s + 1
+one-more s t i long below old new rest =
+    let more : OneMore (holds (cell s) 1) (holds (cell t) 1) i =
+    record {
+      up = omega (arith, holds-yes (cell t) 1 i new, holds-no (cell s) 1 i (λ e. omega arith));
+      else = (λ q d. ap (λ (x : ℕ). cond (eqb x 1) 1 0) (rest q d));
+    } in
+    total-rank t (length s) long ∙ ones-flip more (length s) ∙ ap (λ (b : Bool). rankOf (cell s) 1 (length s) + cond b 1 0) (lt-ltb i (length s) below)
+    ∙ ap (λ (x : ℕ). x + 1) (sym (total-rank s (length s) refl))
+
+-- a bit turned moves it by one
+pub set-total : (s : List ℕ) (i : ℕ) → i < length s → cell s i ≤ 1
+    → totalOf (set s i (1 - cell s i)) ≡ cond (eqb (1 - cell s i) 1) (totalOf s + 1) (totalOf s - 1)
+set-total s i below bit = go (lt-or (cell s i) 1)
+  where
+    t : List ℕ
+    t = set s i (1 - cell s i)
+
+    long : length t ≡ length s
+    long = length-set s i (1 - cell s i)
+
+    new : cell t i ≡ 1 - cell s i
+    new = getD-set-same s i (1 - cell s i) 0 below
+
+    rest : (q : ℕ) → (q ≡ i → ⊥) → cell t q ≡ cell s q
+    rest q d = getD-set-other s i q (1 - cell s i) 0 d
+
+    go : (cell s i < 1) ⊎ (1 ≤ cell s i) → totalOf t ≡ cond (eqb (1 - cell s i) 1) (totalOf s + 1) (totalOf s - 1)
+    go (inl l) =
+        rw (eq-eqb (1 - cell s i) 1 (omega arith))
+        (one-more s t i long below (omega arith) (omega (arith, new)) rest)
+    go (inr l) =
+        rw (ne-eqb (1 - cell s i) 1 (λ e. omega arith))
+        (omega (arith, one-more t s i (sym long) (omega (arith, long)) (omega (arith, new)) (omega arith) (λ q d. sym (rest q d))))

@@ -1,46 +1,55 @@
 -- The promise of a call, case by case: refused by its table, or passed and done. Assumes nothing.
 use mathlib.Core.Path.{_≡_, refl, sym, ap, ap₂, _∙_, subst}
-use mathlib.Core.Bool.{cond}
+use mathlib.Core.Bool.{false, cond}
 use mathlib.Core.Logic.{_⊎_, inl, inr}
 use mathlib.Core.List.{List, [], _∷_, _++_}
 use mathlib.Core.Option.{Option, some, none}
 use Prim.Native.Nat.{ℕ, _+_, _-_, _/_, _%_, _^_, _≤_, _<_}
 use native.Mathlib.Omega.{arith}
-use lib.Dec.{eqb}
+use lib.Dec.{leb, eqb}
 use lib.ListN.{length, getD, set, take}
-use borrow.Author.Tests.{eqb-true, eq-eqb, ne-eqb}
+use borrow.Author.Tests.{eqb-true, eq-eqb, ne-eqb, lt-leb, leb-false, ltb-false}
 use Rattle.words.specs.Bits.{bitAt, ones}
-use Rattle.words.specs.Strip.{cell, rank}
-use Rattle.words.specs.Refusals.{numberOf, Line, judge, unless, verdictOf}
+use Rattle.words.specs.Strip.{cell, orElse, holds, rankOf, totalOf}
+use Rattle.words.specs.Refusals.{numberOf, Line, _⇒_, judge, unless, verdictOf}
 use Rattle.words.specs.Handles.{handle}
+use Rattle.words.specs.Calls.{valueLine, belowLine}
 use Rattle.words.specs.Working.{RangePut}
 use Rattle.words.specs.declared.handle.Handle.{Handle}
 use Rattle.words.specs.declared.refusal.Refusal.{Refusal}
 use Rattle.words.specs.declared.refusal.Verdict.{Verdict}
 use Rattle.words.specs.declared.refusal.Verdict.the-variants.{Pass, Refuse}
-use Rattle.words.proofs.Sums.{lt-or}
-use Rattle.words.proofs.WordLaws.{bitAt-le, bitAt-past}
-use Rattle.words.proofs.CheckLaws.{not-both, judged-refuse, judged-pass, Passes, passes, passed-both, checked}
-use Rattle.words.proofs.StripLaws.{strip-cell}
+use Rattle.words.proofs.Sums.{lt-or, rank-one}
+use Rattle.words.proofs.WordLaws.{bitAt-le, bitAt-past, holds-yes}
+use Rattle.words.proofs.SearchLaws.{rank-both, rank-ones}
+use Rattle.words.proofs.CheckLaws.{judge-append, not-both, judged-refuse, judged-pass, Passes, passes, passed-both, checked}
+use Rattle.words.proofs.StripLaws.{strip-cell, strip-length, strip-le}
 use Rattle.counters.specs.Tree.{blocksOf, counterCount, changeCount}
 use Rattle.counters.specs.Record.{Fits, AllFit}
 use Rattle.counters.specs.Working.{TreeOver, PathMovedBy}
 use Rattle.counters.specs.Promises.{done, outcome, Promise, Near, near}
-use Rattle.counters.specs.Calls.{checks, heldStrip, rebuilt, pushTable, Pushed, flipTable, Flipped, filled}
+use Rattle.counters.specs.Calls.{checks, heldStrip, rebuilt, pushTable, Pushed, flipTable, turnedBit, totalLine, moveTable, totalMoved, Flipped, filled}
 use Rattle.counters.proofs.FlipLaws.{changeCount-le}
+use Rattle.counters.proofs.AfreshLaws.{fits-total}
 use Rattle.counters.proofs.ChangeLaws as C
 
--- ---- the two cases of a promise
-pub promise-refused : {A : Type 0} (t : List Line) (refuse : ℕ → A) (late : A) (Fit : Type 0) (Loose : A → Type 0) (v : Verdict) (r : Refusal)
-    → verdictOf v ≡ judge t → v ≡ Refuse r → Promise A (judge t) refuse late Fit Loose (refuse (numberOf r))
-promise-refused t refuse late Fit Loose v r e d =
-    let j : judge t ≡ some (numberOf r) = judged-refuse t v r e d in
+-- ---- the cases of a promise
+-- refused by its table
+pub promise-early : {A : Type 0} (t : List Line) (refuse : ℕ → A) (late : A) (Fit : Type 0) (Loose : A → Type 0) (n : ℕ)
+    → judge t ≡ some n → Promise A (judge t) refuse late Fit Loose (refuse n)
+promise-early t refuse late Fit Loose n j =
     record {
-      early = (λ n h. let s : numberOf r ≡ n = cc in ap refuse s);
+      early = (λ m h. let s : n ≡ m = cc in ap refuse s);
       exact = (λ h f. not-both j h);
       loose = (λ h. not-both j h);
     }
 
+-- as a function says that judged the table
+pub promise-refused : {A : Type 0} (t : List Line) (refuse : ℕ → A) (late : A) (Fit : Type 0) (Loose : A → Type 0) (v : Verdict) (r : Refusal)
+    → verdictOf v ≡ judge t → v ≡ Refuse r → Promise A (judge t) refuse late Fit Loose (refuse (numberOf r))
+promise-refused t refuse late Fit Loose v r e d = promise-early t refuse late Fit Loose (numberOf r) (judged-refuse t v r e d)
+
+-- passed
 pub promise-passed : {A : Type 0} (t : List Line) (refuse : ℕ → A) (late : A) (Fit : Type 0) (Loose : A → Type 0) (o : A)
     → judge t ≡ none → (Fit → o ≡ late) → Loose o → Promise A (judge t) refuse late Fit Loose o
 promise-passed t refuse late Fit Loose o j exact loose =
@@ -58,13 +67,14 @@ pub record Sizes (h : Handle) (ws cs : List ℕ) : Type 0 where
   pub least : 512 ≤ h .capacity
   pub most : h .capacity ≤ 134217728
   pub long : h .length ≤ h .capacity
+  pub held : h .total ≤ h .length
   pub words : length ws ≡ h .capacity / 64
   pub counters : length cs ≡ counterCount (blocksOf (h .capacity))
 
 pub sizes : (h : Handle) (ws cs : List ℕ) → judge (checks h (length ws) (length cs)) ≡ none → Sizes h ws cs
 sizes h ws cs p =
     let k = checked h (length ws) (eqb (length cs) (counterCount (blocksOf (h .capacity)))) p in
-    record { step = k .step; least = k .least; most = k .most; long = k .long; words = k .count; counters = eqb-true _ _ (k .counters) }
+    record { step = k .step; least = k .least; most = k .most; long = k .long; held = k .held; words = k .count; counters = eqb-true _ _ (k .counters) }
 
 -- the tree of a record
 pub tree-over : {h : Handle} {ws cs : List ℕ} → Sizes h ws cs → TreeOver (blocksOf (h .capacity)) cs
@@ -96,6 +106,38 @@ pub high-zero : (h : Handle) (ws cs vs : List ℕ) → Sizes h ws cs → length 
 high-zero h ws cs vs z l q a = bitAt-past vs q (omega (arith, z .words, z .most))
 
 -- ---- turn
+-- on a fitting record the total moves
+pub total-moves : (h : Handle) (ws cs : List ℕ) (i : ℕ) → Fits h ws cs → i < h .length → totalLine h (turnedBit h ws i) .applies ≡ false
+total-moves h ws cs i f below = go (lt-or (bitAt ws i) 1)
+  where
+    old : cell (heldStrip h ws) i ≡ bitAt ws i
+    old = strip-cell ws (h .length) i below
+
+    held : h .total ≡ ones (bitAt ws) (h .length)
+    held = fits-total h ws cs f
+
+    go : (bitAt ws i < 1) ⊎ (1 ≤ bitAt ws i) → totalLine h (turnedBit h ws i) .applies ≡ false
+    go (inl l) =
+        let some : 1 ≤ rankOf (bitAt ws) 0 (h .length) =
+        omega (arith, rank-one (holds (bitAt ws) 0) i (h .length) (holds-yes (bitAt ws) 0 i (omega arith)) below) in
+        let less : h .total < h .length =
+        omega (arith, held, some, rank-both (bitAt ws) (h .length) (bitAt-le ws), rank-ones (bitAt ws) (h .length) (bitAt-le ws)) in
+        simp (eq-eqb (turnedBit h ws i) 1 (omega (arith, old)), lt-leb (h .length) (h .total) less)
+    go (inr l) =
+        let some : 1 ≤ rankOf (bitAt ws) 1 (h .length) =
+        omega (arith, rank-one (holds (bitAt ws) 1) i (h .length) (holds-yes (bitAt ws) 1 i (omega (arith, bitAt-le ws i))) below) in
+        let more : 1 ≤ h .total = omega (arith, held, some, rank-ones (bitAt ws) (h .length) (bitAt-le ws)) in
+        simp (ne-eqb (turnedBit h ws i) 1 (λ e. omega (arith, old)), ne-eqb (h .total) 0 (λ e. omega arith))
+
+-- and so the table is that without the total's line
+pub move-judged : (h : Handle) (ws cs : List ℕ) (i : ℕ) → Fits h ws cs → judge (moveTable h ws (length cs) i) ≡ judge (flipTable h (length ws) (length cs) i)
+move-judged h ws cs i f =
+    judge-append (flipTable h (length ws) (length cs) i) (totalLine h (turnedBit h ws i) ∷ []) ∙ go (judge (flipTable h (length ws) (length cs) i)) refl
+  where
+    go : (o : Option ℕ) → judge (flipTable h (length ws) (length cs) i) ≡ o → orElse o (judge (totalLine h (turnedBit h ws i) ∷ [])) ≡ o
+    go (some n) e = refl
+    go none e = simp (total-moves h ws cs i f (leb-false _ _ (lines-of h ws cs (belowLine (h .length) i ∷ []) e .0)))
+
 module _ (h : Handle) (ws vs cs ds : List ℕ) (i number d : ℕ) (z : Sizes h ws cs) (below : i < h .length)
     (put : RangePut ws i (i + 1) (1 - bitAt ws i) vs) (small : (k : ℕ) → getD vs k 0 < 2 ^ 64)
     (path : PathMovedBy (blocksOf (h .capacity)) i d cs ds) (count : number ≡ changeCount (blocksOf (h .capacity)) i)
@@ -119,15 +161,22 @@ module _ (h : Handle) (ws vs cs ds : List ℕ) (i number d : ℕ) (z : Sizes h w
           (C.put-less ws vs i o (subst (λ (x : ℕ). RangePut ws i (i + 1) x vs) b put))
           (bitAt-le ws) (high-zero h ws cs ws z refl) fit (subst (λ (x : ℕ). PathMovedBy (blocksOf (h .capacity)) i x cs ds) down path)
 
-  pub flip-done : judge (flipTable h (length ws) (length cs) i) ≡ none → Flipped h i ws cs (outcome (done h (1 - bitAt ws i) number) vs ds)
+  pub flip-done : judge (moveTable h ws (length cs) i) ≡ none
+      → Flipped h i ws cs (outcome (done (totalMoved h (1 - bitAt ws i)) (1 - bitAt ws i) number) vs ds)
   flip-done pass =
-      let e : 1 - bitAt ws i ≡ 1 - cell (heldStrip h ws) i = ap (λ (b : ℕ). 1 - b) (sym (strip-cell ws (h .length) i below)) in
-      promise-passed (flipTable h (length ws) (length cs) i) _ _ (Fits h ws cs) _ (outcome (done h (1 - bitAt ws i) number) vs ds) pass
-      (λ f. C.rebuilt-is (h .capacity) (h .length) (1 - bitAt ws i) number (set (heldStrip h ws) i (1 - bitAt ws i)) vs ds
+      let e : 1 - bitAt ws i ≡ turnedBit h ws i = ap (λ (b : ℕ). 1 - b) (sym (strip-cell ws (h .length) i below)) in
+      let moved : Fits h ws cs → totalMoved h (1 - bitAt ws i) .total ≡ totalOf (set (heldStrip h ws) i (1 - bitAt ws i)) =
+      (λ f. subst (λ (x : ℕ). totalMoved h x .total ≡ totalOf (set (heldStrip h ws) i x)) (sym e)
+      (ap (λ (t : ℕ). cond (eqb (turnedBit h ws i) 1) (t + 1) (t - 1)) (f .held)
+      ∙ sym (C.set-total (heldStrip h ws) i (omega (arith, strip-length ws (h .length))) (strip-le ws (h .length) i)))) in
+      promise-passed (moveTable h ws (length cs) i) _ _ (Fits h ws cs) _ (outcome (done (totalMoved h (1 - bitAt ws i)) (1 - bitAt ws i) number) vs ds) pass
+      (λ f. C.rebuilt-is (h .capacity) (h .length) (totalMoved h (1 - bitAt ws i) .total) (1 - bitAt ws i) number
+      (set (heldStrip h ws) i (1 - bitAt ws i)) vs ds
       (C.flip-strip ws vs (h .length) i (1 - bitAt ws i) below put) (put .long ∙ z .words) (path .long ∙ z .counters) small
       (C.put-clean ws vs i (i + 1) (h .length) (1 - bitAt ws i) put (omega arith) (f .clean)) (flip-fits (f .right))
+      (moved f)
       ∙ ap₂ (λ (x y : ℕ). rebuilt (h .capacity) (set (heldStrip h ws) i x) x y) e count)
-      (subst (λ (x : ℕ). Near h h x i x ws cs (outcome (done h (1 - bitAt ws i) number) vs ds)) e
+      (subst (λ (x : ℕ). Near h (totalMoved h x) x i x ws cs (outcome (done (totalMoved h (1 - bitAt ws i)) (1 - bitAt ws i) number) vs ds)) e
       (near number vs ds (omega (arith, count, changeCount-le (blocksOf (h .capacity)) i)) (C.put-bit ws vs i (1 - bitAt ws i) put)
       (C.path-moved (blocksOf (h .capacity)) i d cs ds path)))
 
@@ -136,23 +185,31 @@ module _ (h : Handle) (ws vs cs ds : List ℕ) (i number d : ℕ) (z : Sizes h w
 module _ (h : Handle) (ws vs cs : List ℕ) (v : ℕ) (z : Sizes h ws cs) (room : h .length < h .capacity)
     (put : RangePut ws (h .length) (h .length + 1) v vs) (small : (k : ℕ) → getD vs k 0 < 2 ^ 64)
     (pass : judge (pushTable h (length ws) (length cs) v) ≡ none) where
+  -- the handle that it gives
+  abbrev pub next : Handle
+  next = handle (h .capacity) (h .length + 1) (h .total + v)
+
+  -- v is 0 or 1
+  bit : v ≤ 1
+  bit = ltb-false _ _ (lines-of h ws cs (valueLine v ∷ (leb (h .capacity) (h .length) ⇒ 7) ∷ []) pass .0)
+
   -- done, with the counters ds
   push-with : (number : ℕ) (ds : List ℕ) → number ≡ cond (eqb v 1) (changeCount (blocksOf (h .capacity)) (h .length)) 0 → length ds ≡ length cs
       → (Fits h ws cs → AllFit (bitAt vs) (blocksOf (h .capacity)) ds)
-      → Near h (handle (h .capacity) (h .length + 1)) (h .length) (h .length) v ws cs (outcome (done (handle (h .capacity) (h .length + 1)) (h .length) number) vs ds)
-      → Pushed h v ws cs (outcome (done (handle (h .capacity) (h .length + 1)) (h .length) number) vs ds)
+      → Near h next (h .length) (h .length) v ws cs (outcome (done next (h .length) number) vs ds)
+      → Pushed h v ws cs (outcome (done next (h .length) number) vs ds)
   push-with number ds count long fit loose =
       promise-passed (pushTable h (length ws) (length cs) v) _ _ (Fits h ws cs) _
-      (outcome (done (handle (h .capacity) (h .length + 1)) (h .length) number) vs ds) pass
-      (λ f. C.rebuilt-is (h .capacity) (h .length + 1) (h .length) number (heldStrip h ws ++ (v ∷ [])) vs ds
+      (outcome (done next (h .length) number) vs ds) pass
+      (λ f. C.rebuilt-is (h .capacity) (h .length + 1) (h .total + v) (h .length) number (heldStrip h ws ++ (v ∷ [])) vs ds
       (C.push-strip ws vs (h .length) v put) (put .long ∙ z .words) (long ∙ z .counters) small
       (C.put-clean ws vs (h .length) (h .length + 1) (h .length + 1) v put (native.Mathlib.Nat.le-refl (h .length + 1))
       (λ p l. f .clean p (omega arith)))
-      (fit f)
+      (fit f) (ap (λ (t : ℕ). t + v) (f .held) ∙ sym (C.push-total (heldStrip h ws) v bit))
       ∙ ap (λ (y : ℕ). rebuilt (h .capacity) (heldStrip h ws ++ (v ∷ [])) (h .length) y) count)
       loose
 
-  pub push-zero : v ≡ 0 → Pushed h v ws cs (outcome (done (handle (h .capacity) (h .length + 1)) (h .length) 0) vs cs)
+  pub push-zero : v ≡ 0 → Pushed h v ws cs (outcome (done next (h .length) 0) vs cs)
   push-zero e =
       push-with 0 cs (sym (simp (ne-eqb v 1 (λ o. omega arith)))) refl
       (λ f. C.same-fits (bitAt ws) (bitAt vs) (blocksOf (h .capacity)) cs (same f) (f .right))
@@ -167,8 +224,7 @@ module _ (h : Handle) (ws vs cs : List ℕ) (v : ℕ) (z : Sizes h ws cs) (room 
           go (no q) = sym (C.put-other ws vs (h .length) v put p q)
 
   pub push-one : (number : ℕ) (ds : List ℕ) → v ≡ 1 → number ≡ changeCount (blocksOf (h .capacity)) (h .length)
-      → PathMovedBy (blocksOf (h .capacity)) (h .length) 1 cs ds
-      → Pushed h v ws cs (outcome (done (handle (h .capacity) (h .length + 1)) (h .length) number) vs ds)
+      → PathMovedBy (blocksOf (h .capacity)) (h .length) 1 cs ds → Pushed h v ws cs (outcome (done next (h .length) number) vs ds)
   push-one number ds e count path =
       push-with number ds (count ∙ sym (simp (eq-eqb v 1 e))) (path .long)
       (λ f. C.raised-fits (bitAt ws) (bitAt vs) (blocksOf (h .capacity)) (h .length) cs ds
@@ -181,20 +237,24 @@ module _ (h : Handle) (ws vs cs : List ℕ) (v : ℕ) (z : Sizes h ws cs) (room 
 -- ---- run and cut: all counters laid from the words
 pub fill-done : (h : Handle) (ws us vs cs ds : List ℕ) (a b v x : ℕ) → Sizes h ws cs → RangePut ws a b v us → RangePut us (h .length) (h .capacity) 0 vs
     → ((k : ℕ) → getD vs k 0 < 2 ^ 64) → length ds ≡ length cs → x ≡ ones (bitAt vs) (h .capacity) → AllFit (bitAt vs) (blocksOf (h .capacity)) ds
-    → outcome (done h x 0) vs ds ≡ rebuilt (h .capacity) (filled (heldStrip h ws) a b v) (rank (filled (heldStrip h ws) a b v) 1 (h .length)) 0
+    → outcome (done (handle (h .capacity) (h .length) x) x 0) vs ds
+    ≡ rebuilt (h .capacity) (filled (heldStrip h ws) a b v) (totalOf (filled (heldStrip h ws) a b v)) 0
 fill-done h ws us vs cs ds a b v x z put wipe small long count fit =
     let s = C.fill-strip ws us vs (h .length) a b v (h .capacity) put wipe in
     let clean = C.wipe-clean us vs (h .length) (h .capacity) wipe (omega (arith, put .long, z .words)) in
-    C.rebuilt-is (h .capacity) (h .length) x 0 (filled (heldStrip h ws) a b v) vs ds s (wipe .long ∙ put .long ∙ z .words) (long ∙ z .counters) small clean fit
-    ∙ ap (λ (y : ℕ). rebuilt (h .capacity) (filled (heldStrip h ws) a b v) y 0)
-    (count ∙ C.held-ones vs (h .length) (h .capacity) (filled (heldStrip h ws) a b v) s (z .long) clean)
+    let held : x ≡ totalOf (filled (heldStrip h ws) a b v) =
+    count ∙ C.held-ones vs (h .length) (h .capacity) (filled (heldStrip h ws) a b v) s (z .long) clean in
+    C.rebuilt-is (h .capacity) (h .length) x x 0 (filled (heldStrip h ws) a b v) vs ds s (wipe .long ∙ put .long ∙ z .words) (long ∙ z .counters)
+    small clean fit held
+    ∙ ap (λ (y : ℕ). rebuilt (h .capacity) (filled (heldStrip h ws) a b v) y 0) held
 
 pub truncate-done : (h : Handle) (ws vs cs ds : List ℕ) (n x : ℕ) → Sizes h ws cs → n ≤ h .length → RangePut ws n (h .capacity) 0 vs
     → ((k : ℕ) → getD vs k 0 < 2 ^ 64) → length ds ≡ length cs → x ≡ ones (bitAt vs) (h .capacity) → AllFit (bitAt vs) (blocksOf (h .capacity)) ds
-    → outcome (done (handle (h .capacity) n) x 0) vs ds ≡ rebuilt (h .capacity) (take n (heldStrip h ws)) (rank (take n (heldStrip h ws)) 1 n) 0
+    → outcome (done (handle (h .capacity) n x) x 0) vs ds ≡ rebuilt (h .capacity) (take n (heldStrip h ws)) (totalOf (take n (heldStrip h ws))) 0
 truncate-done h ws vs cs ds n x z le wipe small long count fit =
     let s = C.cut-strip ws vs (h .length) n (h .capacity) le wipe in
     let clean = C.wipe-clean ws vs n (h .capacity) wipe (omega (arith, z .words)) in
-    C.rebuilt-is (h .capacity) n x 0 (take n (heldStrip h ws)) vs ds s (wipe .long ∙ z .words) (long ∙ z .counters) small clean fit
-    ∙ ap (λ (y : ℕ). rebuilt (h .capacity) (take n (heldStrip h ws)) y 0)
-    (count ∙ C.held-ones vs n (h .capacity) (take n (heldStrip h ws)) s (omega (arith, z .long)) clean)
+    let held : x ≡ totalOf (take n (heldStrip h ws)) =
+    count ∙ C.held-ones vs n (h .capacity) (take n (heldStrip h ws)) s (omega (arith, z .long)) clean in
+    C.rebuilt-is (h .capacity) n x x 0 (take n (heldStrip h ws)) vs ds s (wipe .long ∙ z .words) (long ∙ z .counters) small clean fit held
+    ∙ ap (λ (y : ℕ). rebuilt (h .capacity) (take n (heldStrip h ws)) y 0) held

@@ -1,35 +1,36 @@
 -- What count, find and check give, by what the counters say of a strip. Assumes nothing.
 use mathlib.Core.Path.{_≡_, refl, sym, ap, ap₂, _∙_, subst, subst₂}
-use mathlib.Core.Bool.{Bool, true, false, not}
-use mathlib.Core.List.{List, [], _∷_}
+use mathlib.Core.Bool.{Bool, true, false, not, _&&_}
+use mathlib.Core.List.{List, [], _∷_, _++_}
 use mathlib.Core.Option.{Option, none}
 use Prim.Native.Nat.{ℕ, _*_, _^_, _≤_, _<_}
 use native.Mathlib.Omega.{arith}
+use lib.Dec.{eqb}
 use lib.ListN.{length, getD}
+use borrow.Author.Tests.{eqb-true, eq-eqb, ltb-false}
 use Rattle.words.specs.Bits.{bitAt, ones, same}
-use Rattle.words.specs.Strip.{orElse, holds, rankOf, selectOf, rank, select}
-use Rattle.words.specs.Working.{ofValue}
+use Rattle.words.specs.Strip.{orElse, holds, rankOf, selectOf, totalOf, ofValue, select}
 use Rattle.words.specs.Words.{placeIn}
-use Rattle.words.specs.Refusals.{numberOf, _⇒_, judge, verdictOf, unless, value, refused, found}
+use Rattle.words.specs.Refusals.{numberOf, _⇒_, judge, verdictOf, unless, Told, value, refused, found}
+use Rattle.words.specs.Calls.{valueLine}
 use Rattle.words.specs.Handles.{handle, handleOf}
 use Rattle.words.specs.declared.handle.Handle.{Handle}
 use Rattle.words.specs.declared.refusal.Refusal.{Refusal}
 use Rattle.words.specs.declared.refusal.Verdict.{Verdict}
 use Rattle.words.specs.declared.refusal.Verdict.the-variants.{Refuse}
-use Rattle.words.proofs.Sums.{sum-flat, ones-le, sum-mono}
+use Rattle.words.proofs.Sums.{ones-le, sum-mono}
 use Rattle.words.proofs.WordLaws.{bitAt-le}
-use Rattle.words.proofs.CheckLaws.{judge-append, refused-first, unless-refused}
+use Rattle.words.proofs.CheckLaws.{judge-append, refused-first, unless-refused, line-found, passes, passed-both}
 use Rattle.words.proofs.BoolLaws.{and-intro, and-first, and-second}
 use Rattle.words.proofs.SameLaws.{same-eq, same-refl}
-use Rattle.words.proofs.SearchLaws.{select-exists, select-place, select-none, select-longer, rank-ones, value-rank, value-le}
-use Rattle.words.proofs.StripLaws.{strip-length, strip-rank, strip-select, strip-le}
+use Rattle.words.proofs.SearchLaws.{select-exists, select-place, select-longer, value-rank, value-le}
+use Rattle.words.proofs.StripLaws.{total-absent, strip-length, strip-rank, strip-total, strip-select, strip-le}
 use Rattle.counters.specs.Tree.{blocksOf}
 use Rattle.counters.specs.Record.{Fits, AllFit, packedWords, builtCounters}
-use Rattle.counters.specs.Working.{OnesHeld}
-use Rattle.counters.specs.Promises.{AtMost, Below}
+use Rattle.counters.specs.Promises.{AtMost, PlaceBelow}
 use Rattle.counters.specs.Calls.{checks, heldStrip, rankTable, Ranked, selectTable, Selected, fitting, verifyTable, verifyTold}
-use Rattle.counters.proofs.PromiseLaws.{promise-passed, Sizes, sizes}
-use Rattle.counters.proofs.AfreshLaws.{built-fits, fits-built}
+use Rattle.counters.proofs.PromiseLaws.{promise-passed, promise-exact, Sizes, sizes}
+use Rattle.counters.proofs.AfreshLaws.{built-fits, fits-total, fits-built}
 
 -- ---- count
 module _ (h : Handle) (ws cs : List ℕ) (v i x : ℕ) (small : v ≤ 1) (within : i ≤ h .length)
@@ -48,60 +49,45 @@ module _ (h : Handle) (ws cs : List ℕ) (v i x : ℕ) (small : v ≤ 1) (within
       AtMost.unfit
 
 -- ---- find
-module _ (h : Handle) (ws cs : List ℕ) (v k x : ℕ) (z : Sizes h ws cs) (small : v ≤ 1)
-    (pass : judge (selectTable h (length ws) (length cs) v k) ≡ none)
-    (total : OnesHeld (blocksOf (h .capacity)) cs x)
-  where
-    -- the capacity, by its blocks
-    whole : 512 * blocksOf (h .capacity) ≡ h .capacity
-    whole = omega (arith, z .step)
+module _ (h : Handle) (ws cs : List ℕ) (v k p : ℕ) (z : Sizes h ws cs) (small : v ≤ 1)
+    (pass : judge (selectTable h (length ws) (length cs) v k) ≡ none) (more : k < ofValue v (h .length) (h .total))
+    (place : AllFit (bitAt ws) (blocksOf (h .capacity)) cs → k < rankOf (bitAt ws) v (512 * blocksOf (h .capacity))
+    → p ≡ placeIn (512 * blocksOf (h .capacity)) (selectOf (bitAt ws) (512 * blocksOf (h .capacity)) v k)) where
+  -- on a fitting record the number of v is count(v, length)
+  number-is : Fits h ws cs → ofValue v (h .length) (h .total) ≡ rankOf (bitAt ws) v (h .length)
+  number-is f = ap (ofValue v (h .length)) (fits-total h ws cs f) ∙ value-rank (bitAt ws) v (h .length) (bitAt-le ws) small
 
-    -- on a fitting record the total is the ones of the strip
-    total-is : Fits h ws cs → x ≡ ones (bitAt ws) (h .length)
-    total-is f =
-        total (bitAt ws) (f .right) (λ p l. f .clean p (omega (arith, whole, z .long)))
-        ∙ ap (ones (bitAt ws)) whole ∙ sum-flat (bitAt ws) (h .length) (h .capacity) (z .long) (f .clean)
+  -- and the position that the counters lead to is the stroke's
+  place-is : Fits h ws cs → (found (select (heldStrip h ws) v k) ≡ value p) × (p < h .length)
+  place-is f =
+      let few : k < rankOf (bitAt ws) v (h .length) = omega (arith, more, number-is f) in
+      let w = select-exists (bitAt ws) (h .length) v k few in
+      let le : h .length ≤ 512 * blocksOf (h .capacity) = omega (arith, z .step, z .long) in
+      let many : k < rankOf (bitAt ws) v (512 * blocksOf (h .capacity)) = omega (arith, few, sum-mono (holds (bitAt ws) v) le) in
+      let e : p ≡ w .0 =
+      place (f .right) many
+      ∙ ap (placeIn (512 * blocksOf (h .capacity))) (select-longer (bitAt ws) (h .length) (512 * blocksOf (h .capacity)) v k le few ∙ w .1) in
+      (ap found (strip-select ws (h .length) v k ∙ w .1) ∙ ap value (sym e), omega (arith, e, select-place (bitAt ws) (h .length) v k (w .0) (w .1) .below))
 
-    -- and the number of v is count(v, length)
-    number-is : Fits h ws cs → ofValue v (h .length) x ≡ rankOf (bitAt ws) v (h .length)
-    number-is f = ap (ofValue v (h .length)) (total-is f) ∙ value-rank (bitAt ws) v (h .length) (bitAt-le ws) small
+  pub select-done : p < h .length → Selected h v k ws cs (value p)
+  select-done l =
+      promise-passed (selectTable h (length ws) (length cs) v k) _ _ (Fits h ws cs) _ (value p) pass (λ f. sym (place-is f .0)) (PlaceBelow.is p l)
 
-    pub select-over : h .length < x → Selected h v k ws cs (refused 9)
-    select-over l =
-        promise-passed (selectTable h (length ws) (length cs) v k) _ _ (Fits h ws cs) _ (refused 9) pass
-        (λ f. absurd (omega (arith, total-is f, ones-le (bitAt ws) (h .length) (bitAt-le ws))))
-        Below.unfit
+  pub select-past : h .length ≤ p → Selected h v k ws cs (refused 9)
+  select-past l =
+      promise-passed (selectTable h (length ws) (length cs) v k) _ _ (Fits h ws cs) _ (refused 9) pass
+      (λ f. absurd (omega (arith, place-is f .1))) PlaceBelow.unfit
 
-    pub select-absent : ofValue v (h .length) x ≤ k → Selected h v k ws cs (refused 6)
-    select-absent l =
-        promise-passed (selectTable h (length ws) (length cs) v k) _ _ (Fits h ws cs) _ (refused 6) pass
-        (λ f. sym (ap found (strip-select ws (h .length) v k ∙ select-none (bitAt ws) (h .length) v k (omega (arith, number-is f)))))
-        Below.absent
-
-    -- the position that the counters lead to
-    module _ (p : ℕ) (more : k < ofValue v (h .length) x)
-        (place : AllFit (bitAt ws) (blocksOf (h .capacity)) cs → k < rankOf (bitAt ws) v (512 * blocksOf (h .capacity))
-        → p ≡ placeIn (512 * blocksOf (h .capacity)) (selectOf (bitAt ws) (512 * blocksOf (h .capacity)) v k)) where
-      -- on a fitting record it is the stroke's
-      place-is : Fits h ws cs → (found (select (heldStrip h ws) v k) ≡ value p) × (p < h .length)
-      place-is f =
-          let few : k < rankOf (bitAt ws) v (h .length) = omega (arith, number-is f) in
-          let w = select-exists (bitAt ws) (h .length) v k few in
-          let le : h .length ≤ 512 * blocksOf (h .capacity) = omega (arith, whole, z .long) in
-          let many : k < rankOf (bitAt ws) v (512 * blocksOf (h .capacity)) = omega (arith, sum-mono (holds (bitAt ws) v) le) in
-          let e : p ≡ w .0 =
-          place (f .right) many
-          ∙ ap (placeIn (512 * blocksOf (h .capacity))) (select-longer (bitAt ws) (h .length) (512 * blocksOf (h .capacity)) v k le few ∙ w .1) in
-          (ap found (strip-select ws (h .length) v k ∙ w .1) ∙ ap value (sym e), omega (arith, e, select-place (bitAt ws) (h .length) v k (w .0) (w .1) .below))
-
-      pub select-done : p < h .length → Selected h v k ws cs (value p)
-      select-done l =
-          promise-passed (selectTable h (length ws) (length cs) v k) _ _ (Fits h ws cs) _ (value p) pass (λ f. sym (place-is f .0)) (Below.is p l)
-
-      pub select-past : h .length ≤ p → Selected h v k ws cs (refused 9)
-      select-past l =
-          promise-passed (selectTable h (length ws) (length cs) v k) _ _ (Fits h ws cs) _ (refused 9) pass
-          (λ f. absurd (omega (arith, place-is f .1))) Below.unfit
+-- on a fitting record the answer is the definition's for every k: 6 is given where there is no such stroke, and nowhere else
+pub select-fits : (h : Handle) (ws cs : List ℕ) (v k : ℕ) (o : Told) → Fits h ws cs → Selected h v k ws cs o
+    → o ≡ unless (judge (checks h (length ws) (length cs) ++ (valueLine v ∷ []))) refused (found (select (heldStrip h ws) v k))
+select-fits h ws cs v k o f p =
+    let first = checks h (length ws) (length cs) in
+    promise-exact (judge (selectTable h (length ws) (length cs) v k)) p f
+    ∙ line-found (first ++ (valueLine v ∷ [])) (heldStrip h ws) v k (ofValue v (h .length) (h .total)) (λ q l.
+    let small : v ≤ 1 = ltb-false _ _ (passes (valueLine v ∷ []) (passed-both first (valueLine v ∷ []) q .1) .0) in
+    total-absent (heldStrip h ws) v k (strip-le ws (h .length)) small
+    (subst₂ (λ (x y : ℕ). ofValue v x y ≤ k) (sym (strip-length ws (h .length))) (f .held) l))
 
 -- ---- check
 -- the test is passed where the record fits
@@ -109,7 +95,7 @@ pub fits-fitting : (h : Handle) (ws cs : List ℕ) → Sizes h ws cs → ((k : �
 unfolding fitting
 fits-fitting h ws cs z small f =
     let e = fits-built h ws cs (z .words) (z .counters) small f in
-    and-intro (ap (same ws) (sym (e .0)) ∙ same-refl ws) (ap (same cs) (sym (e .1)) ∙ same-refl cs)
+    and-intro (ap (same ws) (sym (e .0)) ∙ same-refl ws) (and-intro (ap (same cs) (sym (e .1)) ∙ same-refl cs) (eq-eqb _ _ (f .held)))
 
 -- and nowhere else
 pub fitting-fits : (h : Handle) (ws cs : List ℕ) → Sizes h ws cs → fitting h ws cs ≡ true → Fits h ws cs
@@ -119,14 +105,16 @@ fitting-fits h ws cs z e =
     let s : List ℕ = heldStrip h ws in
     let a : Bool = same ws (packedWords c s) in
     let b : Bool = same cs (builtCounters c s) in
+    let d : Bool = eqb (h .total) (totalOf s) in
+    let rest : (b && d) ≡ true = and-second a (b && d) e in
     let long : length s ≤ c = omega (arith, strip-length ws (h .length), z .long) in
     let f : Fits (handleOf c s) (packedWords c s) (builtCounters c s) = built-fits c s (z .step) long (strip-le ws (h .length)) in
-    let g : Fits (handle c (h .length)) (packedWords c s) (builtCounters c s) =
-    subst (λ (n : ℕ). Fits (handle c n) (packedWords c s) (builtCounters c s)) (strip-length ws (h .length)) f in
-    let k : Fits (handle c (h .length)) ws cs =
-    subst₂ (λ (vs ds : List ℕ). Fits (handle c (h .length)) vs ds) (sym (same-eq ws (packedWords c s) (and-first a b e)))
-    (sym (same-eq cs (builtCounters c s) (and-second a b e))) g in
-    record { clean = k .clean; right = k .right }
+    let g : Fits (handle c (h .length) (totalOf s)) (packedWords c s) (builtCounters c s) =
+    subst (λ (n : ℕ). Fits (handle c n (totalOf s)) (packedWords c s) (builtCounters c s)) (strip-length ws (h .length)) f in
+    let k : Fits (handle c (h .length) (totalOf s)) ws cs =
+    subst₂ (λ (vs ds : List ℕ). Fits (handle c (h .length) (totalOf s)) vs ds) (sym (same-eq ws (packedWords c s) (and-first a (b && d) e)))
+    (sym (same-eq cs (builtCounters c s) (and-first b d rest))) g in
+    record { clean = k .clean; right = k .right; held = eqb-true _ _ (and-second b d rest) }
 
 -- the table, where the checks pass, by the test
 verify-judged : (h : Handle) (ws cs : List ℕ) (b : Bool) → judge (checks h (length ws) (length cs)) ≡ none → fitting h ws cs ≡ b
@@ -138,7 +126,7 @@ verify-judged h ws cs b j e =
 pub verify-refused : (h : Handle) (ws cs : List ℕ) (w : Verdict) (r : Refusal) → verdictOf w ≡ judge (checks h (length ws) (length cs)) → w ≡ Refuse r
     → refused (numberOf r) ≡ verifyTold h ws cs
 verify-refused h ws cs w r e d =
-    unless-refused (verifyTable h ws cs) w r refused (value (rank (heldStrip h ws) 1 (h .length)))
+    unless-refused (verifyTable h ws cs) w r refused (value (totalOf (heldStrip h ws)))
     (refused-first (checks h (length ws) (length cs)) ((not (fitting h ws cs) ⇒ 9) ∷ []) w r e d) d
 
 pub verify-unfit : (h : Handle) (ws cs : List ℕ) → judge (checks h (length ws) (length cs)) ≡ none → (Fits h ws cs → ⊥) → refused 9 ≡ verifyTold h ws cs
@@ -146,13 +134,11 @@ verify-unfit h ws cs j no-fit = go (fitting h ws cs) refl
   where
     go : (b : Bool) → fitting h ws cs ≡ b → refused 9 ≡ verifyTold h ws cs
     go true e = absurd (no-fit (fitting-fits h ws cs (sizes h ws cs j) e))
-    go false e = sym (ap (λ (o : Option ℕ). unless o refused (value (rank (heldStrip h ws) 1 (h .length)))) (verify-judged h ws cs false j e))
+    go false e = sym (ap (λ (o : Option ℕ). unless o refused (value (totalOf (heldStrip h ws)))) (verify-judged h ws cs false j e))
 
 pub verify-fits : (h : Handle) (ws cs : List ℕ) (x : ℕ) → judge (checks h (length ws) (length cs)) ≡ none → ((k : ℕ) → getD ws k 0 < 2 ^ 64) → Fits h ws cs
     → x ≡ ones (bitAt ws) (h .length) → value x ≡ verifyTold h ws cs
 verify-fits h ws cs x j small f e =
-    ap value
-    (e ∙ sym (rank-ones (bitAt ws) (h .length) (bitAt-le ws))
-    ∙ sym (strip-rank ws (h .length) 1 (h .length) (native.Mathlib.Nat.le-refl (h .length))))
-    ∙ sym (ap (λ (o : Option ℕ). unless o refused (value (rank (heldStrip h ws) 1 (h .length))))
+    ap value (e ∙ sym (strip-total ws (h .length)))
+    ∙ sym (ap (λ (o : Option ℕ). unless o refused (value (totalOf (heldStrip h ws))))
     (verify-judged h ws cs true j (fits-fitting h ws cs (sizes h ws cs j) small f)))

@@ -6,13 +6,13 @@ use lib.ListN.{length, set, take}
 use lib.Dec.{leb, ltb, eqb}
 use Rattle.words.specs.declared.handle.Handle.{Handle}
 use Rattle.words.specs.Bits.{listOf, same}
-use Rattle.words.specs.Strip.{cell, stripOf, rank, select}
+use Rattle.words.specs.Strip.{cell, stripOf, rank, totalOf, ofValue, select}
 use Rattle.words.specs.Refusals.{Line, _⇒_, judge, unless, Told, value, refused, found}
 use Rattle.words.specs.Handles.{allowed, handle, handleOf, stripLines}
 use Rattle.words.specs.Calls.{valueLine, belowLine, withinLine, spanLine, absentLine}
 use Rattle.counters.specs.Tree.{blocksOf, counterCount, changeCount}
 use Rattle.counters.specs.Record.{StripRecord, Fits, builtRecord}
-use Rattle.counters.specs.Promises.{CreatedTold, created, uncreated, ChangedTold, done, Outcome, outcome, stays, Promise, Near, AtMost, Below}
+use Rattle.counters.specs.Promises.{CreatedTold, created, uncreated, ChangedTold, done, Outcome, outcome, stays, Promise, Near, AtMost, PlaceBelow}
 
 -- 1, 2, 3; `words` and `counters` are the numbers of words and counters lent
 abbrev pub checks : Handle → ℕ → ℕ → List Line
@@ -42,25 +42,41 @@ createOutcome c ws cs =
 abbrev pub pushTable : Handle → ℕ → ℕ → ℕ → List Line
 pushTable h words counters v = checks h words counters ++ (valueLine v ∷ (leb (h .capacity) (h .length) ⇒ 7) ∷ [])
 
--- it appends v, and answers the position and the number of counters changed, none for 0
+-- it appends v, adds it to the total, and answers the position and the number of counters changed, none for 0
 abbrev pub Pushed : Handle → ℕ → List ℕ → List ℕ → Outcome ChangedTold → Type 0
 Pushed h v ws cs =
     Promise (Outcome ChangedTold) (judge (pushTable h (length ws) (length cs) v)) (stays h ws cs)
     (rebuilt (h .capacity) (heldStrip h ws ++ (v ∷ [])) (h .length) (cond (eqb v 1) (changeCount (blocksOf (h .capacity)) (h .length)) 0))
     (Fits h ws cs)
-    (Near h (handle (h .capacity) (h .length + 1)) (h .length) (h .length) v ws cs)
+    (Near h (handle (h .capacity) (h .length + 1) (h .total + v)) (h .length) (h .length) v ws cs)
 
 -- turn(i): 1, 2, 3; 4 i not below the length
 abbrev pub flipTable : Handle → ℕ → ℕ → ℕ → List Line
 flipTable h words counters i = checks h words counters ++ (belowLine (h .length) i ∷ [])
 
--- it replaces one bit by its opposite, and answers the new bit and the number of counters whose value changed
+-- the new bit at i, the opposite of the old one
+abbrev pub turnedBit : Handle → List ℕ → ℕ → ℕ
+turnedBit h ws i = 1 - cell (heldStrip h ws) i
+
+-- 9 where the move of a bit that becomes b would take the total below 0 or above the length
+abbrev pub totalLine : Handle → ℕ → Line
+totalLine h b = cond (eqb b 1) (leb (h .length) (h .total)) (eqb (h .total) 0) ⇒ 9
+
+-- turn on any record: 1, 2, 3; 4; then 9 by the total, which never comes on a fitting one (PromiseLaws.total-moves)
+abbrev pub moveTable : Handle → List ℕ → ℕ → ℕ → List Line
+moveTable h ws counters i = flipTable h (length ws) counters i ++ (totalLine h (turnedBit h ws i) ∷ [])
+
+-- the handle with the total moved by one: up where a bit becomes 1, else down
+abbrev pub totalMoved : Handle → ℕ → Handle
+totalMoved h b = handle (h .capacity) (h .length) (cond (eqb b 1) (h .total + 1) (h .total - 1))
+
+-- it replaces one bit by its opposite, moves the total, and answers the new bit and the number of counters whose value changed
 abbrev pub Flipped : Handle → ℕ → List ℕ → List ℕ → Outcome ChangedTold → Type 0
 Flipped h i ws cs =
-    Promise (Outcome ChangedTold) (judge (flipTable h (length ws) (length cs) i)) (stays h ws cs)
-    (rebuilt (h .capacity) (set (heldStrip h ws) i (1 - cell (heldStrip h ws) i)) (1 - cell (heldStrip h ws) i) (changeCount (blocksOf (h .capacity)) i))
+    Promise (Outcome ChangedTold) (judge (moveTable h ws (length cs) i)) (stays h ws cs)
+    (rebuilt (h .capacity) (set (heldStrip h ws) i (turnedBit h ws i)) (turnedBit h ws i) (changeCount (blocksOf (h .capacity)) i))
     (Fits h ws cs)
-    (Near h h (1 - cell (heldStrip h ws) i) i (1 - cell (heldStrip h ws) i) ws cs)
+    (Near h (totalMoved h (turnedBit h ws i)) (turnedBit h ws i) i (turnedBit h ws i) ws cs)
 
 -- run(a, b, v): 1, 2, 3; 8; 5 a above b; 4 b above the length
 abbrev pub fillTable : Handle → ℕ → ℕ → ℕ → ℕ → ℕ → List Line
@@ -70,21 +86,21 @@ fillTable h words counters a b v = checks h words counters ++ (valueLine v ∷ s
 unfoldable pub filled : List ℕ → ℕ → ℕ → ℕ → List ℕ
 filled s a b v = listOf (λ p. cond (leb a p && ltb p b) v (cell s p)) (length s)
 
--- it sets them, zeroes the bits past the length, lays all counters from the words, and answers the ones now held
+-- it sets them, zeroes the bits past the length, lays all counters and the total from the words, and answers the ones now held
 abbrev pub fillOutcome : Handle → ℕ → ℕ → ℕ → List ℕ → List ℕ → Outcome ChangedTold
 fillOutcome h a b v ws cs =
     unless (judge (fillTable h (length ws) (length cs) a b v)) (stays h ws cs)
-    (rebuilt (h .capacity) (filled (heldStrip h ws) a b v) (rank (filled (heldStrip h ws) a b v) 1 (h .length)) 0)
+    (rebuilt (h .capacity) (filled (heldStrip h ws) a b v) (totalOf (filled (heldStrip h ws) a b v)) 0)
 
 -- cut(n): 1, 2, 3; 4 n above the length
 abbrev pub truncateTable : Handle → ℕ → ℕ → ℕ → List Line
 truncateTable h words counters n = checks h words counters ++ (withinLine (h .length) n ∷ [])
 
--- it keeps the first n, zeroes the bits past them, lays all counters from the words, and answers the ones held
+-- it keeps the first n, zeroes the bits past them, lays all counters and the total from the words, and answers the ones held
 abbrev pub truncateOutcome : Handle → ℕ → List ℕ → List ℕ → Outcome ChangedTold
 truncateOutcome h n ws cs =
     unless (judge (truncateTable h (length ws) (length cs) n)) (stays h ws cs)
-    (rebuilt (h .capacity) (take n (heldStrip h ws)) (rank (take n (heldStrip h ws)) 1 n) 0)
+    (rebuilt (h .capacity) (take n (heldStrip h ws)) (totalOf (take n (heldStrip h ws))) 0)
 
 -- count(v, i): 1, 2, 3; 8; 4 i above the length; then 9
 abbrev pub rankTable : Handle → ℕ → ℕ → ℕ → ℕ → List Line
@@ -95,19 +111,22 @@ abbrev pub Ranked : Handle → ℕ → ℕ → List ℕ → List ℕ → Told �
 Ranked h v i ws cs =
     Promise Told (judge (rankTable h (length ws) (length cs) v i)) refused (value (rank (heldStrip h ws) v i)) (Fits h ws cs) (AtMost 9 i)
 
--- find(v, k): 1, 2, 3; 8; 6 where k is not below the length, on any record. Below the length: on a fitting record 6 exactly where k is not below the number
--- of v; on any other a position, 6 or 9
+-- find(v, k): 1, 2, 3; 8; 6 where k is not below the number of v that length and total give, on any record; on a fitting one that is where there is no such
+-- stroke (ReadLaws.select-fits)
 abbrev pub selectTable : Handle → ℕ → ℕ → ℕ → ℕ → List Line
-selectTable h words counters v k = checks h words counters ++ (valueLine v ∷ absentLine (h .length) k ∷ [])
+selectTable h words counters v k = checks h words counters ++ (valueLine v ∷ absentLine (ofValue v (h .length) (h .total)) k ∷ [])
 
+-- on a record that does not fit: a position below the length, or 9
 abbrev pub Selected : Handle → ℕ → ℕ → List ℕ → List ℕ → Told → Type 0
 Selected h v k ws cs =
-    Promise Told (judge (selectTable h (length ws) (length cs) v k)) refused (found (select (heldStrip h ws) v k)) (Fits h ws cs) (Below 9 (h .length))
+    Promise Told (judge (selectTable h (length ws) (length cs) v k)) refused (found (select (heldStrip h ws) v k)) (Fits h ws cs)
+    (PlaceBelow 9 (h .length))
 
 -- whether a record is the one laid afresh from the strip that it holds; of 64-bit words, exactly where it fits (ReadLaws.fits-fitting, fitting-fits)
 unfoldable pub fitting : Handle → List ℕ → List ℕ → Bool
 fitting h ws cs =
-    same ws (builtRecord (h .capacity) (heldStrip h ws) .words) && same cs (builtRecord (h .capacity) (heldStrip h ws) .counters)
+    same ws (builtRecord (h .capacity) (heldStrip h ws) .words)
+    && (same cs (builtRecord (h .capacity) (heldStrip h ws) .counters) && eqb (h .total) (builtRecord (h .capacity) (heldStrip h ws) .handle .total))
 
 -- check: 1, 2, 3; 9 where the record does not fit
 abbrev pub verifyTable : Handle → List ℕ → List ℕ → List Line
@@ -115,7 +134,7 @@ verifyTable h ws cs = checks h (length ws) (length cs) ++ ((not (fitting h ws cs
 
 -- it answers the ones
 abbrev pub verifyTold : Handle → List ℕ → List ℕ → Told
-verifyTold h ws cs = unless (judge (verifyTable h ws cs)) refused (value (rank (heldStrip h ws) 1 (h .length)))
+verifyTold h ws cs = unless (judge (verifyTable h ws cs)) refused (value (totalOf (heldStrip h ws)))
 
 -- how many counters a capacity needs: 1 capacity not allowed
 abbrev pub countersTold : ℕ → Told

@@ -76,7 +76,12 @@ pub data AtMost (wrong n : ℕ) : Told → Type 0 where
   is : (x : ℕ) → x ≤ n → AtMost wrong n (value x)
   unfit : AtMost wrong n (refused wrong)
 
--- a find on any record or row: a position below n, or 6, or the refusal that it is wrong
+-- a find on any record, of a stroke that is there by length and total: a position below n, or the refusal that it is wrong
+pub data PlaceBelow (wrong n : ℕ) : Told → Type 0 where
+  is : (x : ℕ) → x < n → PlaceBelow wrong n (value x)
+  unfit : PlaceBelow wrong n (refused wrong)
+
+-- a find on any row: a position below n, or 6, or the refusal that it is wrong
 pub data Below (wrong n : ℕ) : Told → Type 0 where
   is : (x : ℕ) → x < n → Below wrong n (value x)
   absent : Below wrong n (refused 6)

@@ -4,7 +4,7 @@ use mathlib.Core.Path.{_≡_}
 use mathlib.Core.List.{List}
 use lib.ListN.{getD}
 use Rattle.words.specs.Bits.{bitAt, digits, listOf}
-use Rattle.words.specs.Strip.{cell, PastZero}
+use Rattle.words.specs.Strip.{cell, stripOf, PastZero, totalOf}
 use Rattle.words.specs.Handles.{wordsOf, handleOf}
 use Rattle.words.specs.declared.handle.Handle.{Handle}
 use Rattle.counters.specs.Tree.{blocksOf, nodes, height, counter, indexOf, levels}
@@ -19,10 +19,11 @@ pub record StripRecord : Type 0 where
 abbrev pub AllFit : (ℕ → ℕ) → ℕ → List ℕ → Type 0
 AllFit f n xs = (t j i : ℕ) → 1 ≤ t → t ≤ height n → j < nodes n t → i < 72 → getD xs (indexOf n t j i) 0 ≡ counter f t j i
 
--- a record fits when the bits past the length are 0 and every counter is as defined
+-- a record fits when the bits past the length are 0, every counter is as defined, and the total is the ones of its words
 pub record Fits (h : Handle) (ws cs : List ℕ) : Type 0 where
   pub clean : PastZero ws (h .length)
   pub right : AllFit (bitAt ws) (blocksOf (h .capacity)) cs
+  pub held : h .total ≡ totalOf (stripOf ws (h .length))
 
 -- laid afresh from a strip: the words with its bits at their positions and zeros past its length
 unfoldable pub packedWords : ℕ → List ℕ → List ℕ

@@ -1,7 +1,7 @@
 // The calls that lay or change a record. A refusal changes no word and no counter, and gives back the handle that it got.
 ghost use mathlib.Core.Path.{_≡_};
 ghost use mathlib.Core.Bool.{cond};
-ghost use Prim.Native.Nat.{_-_, _^_};
+ghost use Prim.Native.Nat.{_-_, _^_, _≤_};
 ghost use lib.Dec.{eqb};
 ghost use lib.ListN.{length, replicate};
 ghost use Rattle.counters.specs.Promises.{changedOf, createdOf, outcome};
@@ -14,6 +14,7 @@ use super::check::check_flip;
 use super::check::check_push;
 use super::check::check_record;
 use super::check::check_truncate;
+use super::check::moved_total;
 use super::path::move_path;
 use words::BLOCK_BITS;
 use words::Handle;
@@ -38,7 +39,7 @@ fn zero_counters(counters: &mut [u32])
 pub fn create(capacity: usize, words: &mut [u64], counters: &mut [u32]) -> Created
     ensures { λ r. ⌜ outcome (createdOf r) (now (words .exit)) (now (counters .exit)) ≡ createOutcome capacity (now (words .entry)) (now (counters .entry)) ⌝ }
 {
-    let h = Handle::new(capacity, 0);
+    let h = Handle::new(capacity, 0, 0);
     match check_record(h, words.len(), counters.len()) {
         Verdict::Refuse(r) => Created::Refused(r),
         Verdict::Pass => {
@@ -49,7 +50,7 @@ pub fn create(capacity: usize, words: &mut [u64], counters: &mut [u32]) -> Creat
     }
 }
 
-// add(v): appends v, and answers the position and the number of counters changed.
+// add(v): appends v, adds it to the total, and answers the position and the number of counters changed.
 pub fn push(h: Handle, words: &mut [u64], counters: &mut [u32], v: u64) -> Changed
     ensures { λ r. ⌜ Pushed h v (now (words .entry)) (now (counters .entry)) (outcome (changedOf r) (now (words .exit)) (now (counters .exit))) ⌝ }
 {
@@ -58,11 +59,12 @@ pub fn push(h: Handle, words: &mut [u64], counters: &mut [u32], v: u64) -> Chang
         Verdict::Pass => {
             let capacity = h.capacity;
             let p = h.length;
-            let next = Handle::new(capacity, p + 1);
-            put_position(words, p, v);
+            let next = Handle::new(capacity, p + 1, h.total + v as usize);
             if v == 0 {
+                put_position(words, p, 0);
                 return Changed::Done(next, p as u64, 0);
             }
+            put_position(words, p, 1);
             let number = move_path(counters, capacity / BLOCK_BITS, p, 1);
             Changed::Done(next, p as u64, number as u64)
         }
@@ -71,27 +73,30 @@ pub fn push(h: Handle, words: &mut [u64], counters: &mut [u32], v: u64) -> Chang
 
 // What a counter moves by where a bit became b: up by one, or down by one modulo 2^32.
 fn step_to(b: u64) -> u32
+    requires { ⌜ b ≤ 1 ⌝ }
     ensures { λ r. ⌜ r ≡ cond (eqb b 1) 1 (2 ^ 32 - 1) ⌝ }
 {
-    if b == 1 { 1 } else { 4294967295 }
+    std::num::wrapping_sub_u32(2 * b as u32, 1)
 }
 
-// turn(i): replaces a bit by its opposite, and answers the new bit and the number of counters changed.
+// turn(i): replaces a bit by its opposite, moves the total, and answers the new bit and the number of counters changed.
 pub fn flip(h: Handle, words: &mut [u64], counters: &mut [u32], i: usize) -> Changed
     ensures { λ r. ⌜ Flipped h i (now (words .entry)) (now (counters .entry)) (outcome (changedOf r) (now (words .exit)) (now (counters .exit))) ⌝ }
 {
-    match check_flip(h, words.len(), counters.len(), i) {
+    match check_flip(h, words, counters.len(), i) {
         Verdict::Refuse(r) => Changed::Refused(h, r),
         Verdict::Pass => {
             let capacity = h.capacity;
+            let n = h.length;
             let b = flip_position(words, i);
+            let total = moved_total(h, b);
             let number = move_path(counters, capacity / BLOCK_BITS, i, step_to(b));
-            Changed::Done(h, b, number as u64)
+            Changed::Done(Handle::new(capacity, n, total), b, number as u64)
         }
     }
 }
 
-// run(a, b, v): sets the positions a to b - 1 to v, zeroes the bits past the length, lays all counters, and answers the ones held.
+// run(a, b, v): sets the positions a to b - 1 to v, zeroes the bits past the length, lays all counters and the total, and answers the ones held.
 pub fn fill(
     h: Handle,
     words: &mut [u64],
@@ -110,12 +115,12 @@ pub fn fill(
             put_positions(words, a, b, v);
             put_positions(words, n, capacity, 0);
             let ones = build_counters(words, counters, capacity / BLOCK_BITS);
-            Changed::Done(h, ones as u64, 0)
+            Changed::Done(Handle::new(capacity, n, ones), ones as u64, 0)
         }
     }
 }
 
-// cut(n): keeps the first n, zeroes the bits past them, lays all counters, and answers the ones held.
+// cut(n): keeps the first n, zeroes the bits past them, lays all counters and the total, and answers the ones held.
 pub fn truncate(h: Handle, words: &mut [u64], counters: &mut [u32], n: usize) -> Changed
     ensures { λ r. ⌜ outcome (changedOf r) (now (words .exit)) (now (counters .exit)) ≡ truncateOutcome h n (now (words .entry)) (now (counters .entry)) ⌝ }
 {
@@ -125,7 +130,7 @@ pub fn truncate(h: Handle, words: &mut [u64], counters: &mut [u32], n: usize) ->
             let capacity = h.capacity;
             put_positions(words, n, capacity, 0);
             let ones = build_counters(words, counters, capacity / BLOCK_BITS);
-            Changed::Done(Handle::new(capacity, n), ones as u64, 0)
+            Changed::Done(Handle::new(capacity, n, ones), ones as u64, 0)
         }
     }
 }

@@ -1,4 +1,4 @@
-// Finding the k-th v: sixteen counter reads a level, and two more of the root for the ones held; then at most eight words and one word select.
+// Finding the k-th v: sixteen counter reads a level, then at most eight words and one word select.
 ghost use mathlib.Core.Path.{_≡_};
 ghost use Prim.Native.Nat.{ℕ, _+_, _*_, _<_, _≤_};
 ghost use lib.ListN.{length};

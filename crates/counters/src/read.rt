@@ -43,15 +43,7 @@ pub fn select(h: Handle, words: &[u64], counters: &[u32], v: u64, k: usize) -> A
         Verdict::Pass => {
             let capacity = h.capacity;
             let n = h.length;
-            let blocks = capacity / BLOCK_BITS;
-            let ones = ones_held(counters, blocks);
-            if n < ones {
-                return Answer::Refused(Refusal::Unfit);
-            }
-            if of_value(v, n, ones) <= k {
-                return Answer::Refused(Refusal::NotFound);
-            }
-            let p = select_position(words, counters, blocks, v, k);
+            let p = select_position(words, counters, capacity / BLOCK_BITS, v, k);
             if p < n {
                 Answer::Value(p as u64)
             } else {
@@ -76,7 +68,11 @@ pub fn verify(h: Handle, words: &[u64], counters: &[u32]) -> Answer
             if !counters_fit(words, counters, blocks) {
                 return Answer::Refused(Refusal::Unfit);
             }
-            Answer::Value(ones_held(counters, blocks) as u64)
+            let ones = ones_held(counters, blocks);
+            if ones != h.total {
+                return Answer::Refused(Refusal::Unfit);
+            }
+            Answer::Value(ones as u64)
         }
     }
 }

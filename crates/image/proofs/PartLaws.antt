@@ -11,8 +11,8 @@ use lib.Dec.{leb, eqb}
 use borrow.Author.Tests.{leb-true, leb-false, eqb-true}
 use lib.ListN.{length, getD}
 use Rattle.words.specs.Bits.{bit, bitAt, ones}
-use Rattle.words.specs.Strip.{cell, holds, rank, rankOf, select, selectOf}
-use Rattle.words.specs.Working.{ofValue, atMost}
+use Rattle.words.specs.Strip.{cell, holds, rank, rankOf, ofValue, select, selectOf}
+use Rattle.words.specs.Working.{atMost}
 use Rattle.words.specs.Words.{placeIn}
 use Rattle.words.specs.Refusals.{Line, judge, Told, value, refused, found}
 use Rattle.words.proofs.BoolLaws.{and-first, and-second}

@@ -21,7 +21,8 @@ use Rattle.words.proofs.CheckLaws.{absent-found, passed-both}
 use Rattle.counters.specs.Record.{Fits}
 use Rattle.counters.specs.Promises.{Promise, Below}
 use Rattle.counters.proofs.PromiseLaws.{promise-exact}
-use Rattle.counters.specs.Calls.{checks, rankTable, Ranked, selectTable, Selected}
+use Rattle.counters.proofs.ReadLaws.{select-fits}
+use Rattle.counters.specs.Calls.{checks, rankTable, Ranked, Selected}
 use Rattle.words.proofs.Sums.{lt-or, part-at}
 use Rattle.words.proofs.StripLaws.{strip-length, strip-le}
 use Rattle.words.specs.declared.handle.Handle.{Handle}
@@ -611,10 +612,7 @@ module _ (h : Handle) (ws s : List ℕ) (label : ℕ) (e : judge (freezeTable h 
   pub freeze-find : (cs : List ℕ) → Fits h ws cs → judge (checks h (length ws) (length cs)) ≡ none → (v k : ℕ) (o p : Told) → RowSelected image-left label v k o
       → Selected h v k ws cs p → o ≡ p
   freeze-find cs fit c v k o p a b =
-      let n = strip-length ws (h .length) in
       let t : List ℕ = stripOf ws (h .length) in
       freeze-gives .find v k o a
-      ∙ sym (absent-found (valueLine v ∷ []) t v k)
-      ∙ ap (λ (x : ℕ). unless (judge (valueLine v ∷ absentLine x k ∷ [])) refused (found (select t v k))) n
-      ∙ ap (λ (x : Option ℕ). unless x refused (found (select t v k))) (sym (after-lines (checks h (length ws) (length cs)) (valueLine v ∷ absentLine (h .length) k ∷ []) c))
-      ∙ sym (promise-exact (judge (selectTable h (length ws) (length cs) v k)) b fit)
+      ∙ ap (λ (x : Option ℕ). unless x refused (found (select t v k))) (sym (after-lines (checks h (length ws) (length cs)) (valueLine v ∷ []) c))
+      ∙ sym (select-fits h ws cs v k p fit b)

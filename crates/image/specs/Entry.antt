@@ -5,7 +5,7 @@ use mathlib.Core.Path.{_≡_}
 use mathlib.Core.List.{List}
 use lib.ListN.{length, getD}
 use Rattle.words.specs.Bits.{digits}
-use Rattle.words.specs.Working.{ofValue}
+use Rattle.words.specs.Strip.{ofValue}
 use Rattle.words.specs.Handles.{blockBits}
 use Rattle.image.specs.Kinds.{kind1}
 use Rattle.image.specs.Reading.{onesTold}

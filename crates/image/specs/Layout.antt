@@ -3,7 +3,7 @@ use Prim.Native.Nat.{ℕ, zero, suc, _+_, _-_, _*_, _/_}
 use mathlib.Core.List.{List, [], _++_}
 use lib.ListN.{length, replicate}
 use Rattle.words.specs.Bits.{ones, digits, listOf}
-use Rattle.words.specs.Strip.{cell, rank}
+use Rattle.words.specs.Strip.{cell, totalOf}
 use Rattle.words.specs.Handles.{blockBits, mostBits}
 use Rattle.image.specs.Bytes.{le}
 use Rattle.image.specs.Kinds.{Kind}
@@ -83,6 +83,6 @@ bytesOf f n = listOf (λ b. digits 2 (λ j. f (8 * b + j)) 8) n
 -- a record: next index, label, length in bits, number of ones; the entries, padded with zero bytes to a whole unit; the bits, zero past the length
 unfoldable pub recordOf : Kind → ℕ → ℕ → List ℕ → List ℕ
 recordOf K next label s =
-    le 4 next ++ (le 4 label ++ (le 4 (length s) ++ (le 4 (rank s 1 (length s))
+    le 4 next ++ (le 4 label ++ (le 4 (length s) ++ (le 4 (totalOf s)
     ++ (entriesFrom K (cell s) 0 (superblocksOf K (length s)) ++ (zeros (padBytes K (length s))
     ++ bytesOf (cell s) (superblockBytes K * superblocksOf K (length s)))))))

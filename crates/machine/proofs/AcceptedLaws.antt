@@ -13,6 +13,7 @@ use Rattle.words.specs.Refusals.{Line, _⇒_, judge, unless}
 use Rattle.words.specs.Handles.{blockBits, allowed, good, wordsOf}
 use Rattle.words.specs.Calls.{valueLine, belowLine}
 use Rattle.words.proofs.BoolLaws.{and-intro, and-first, and-second}
+use Rattle.words.proofs.StripLaws.{total-le}
 use Rattle.words.proofs.CheckLaws.{judge-append}
 use Rattle.counters.specs.Tree.{blocksOf, counterCount, differ}
 use Rattle.counters.specs.Record.{builtCounters}
@@ -40,7 +41,8 @@ three-pass a b d p q r = simp (p, q, r)
 checks-pass : (a : StripState) → Sized a → length (a .strip) ≤ a .capacity → judge (checks (handleIn a) (a .words) (a .counters)) ≡ none
 checks-pass a z long =
     three-pass (good (handleIn a)) (eqb (a .words) (wordsOf (a .capacity))) (eqb (a .counters) (counterCount (blocksOf (a .capacity))))
-    (and-intro (z .capacity) (le-leb (length (a .strip)) (a .capacity) long)) (eq-eqb _ _ (z .words)) (eq-eqb _ _ (z .counters))
+    (and-intro (z .capacity) (and-intro (le-leb (length (a .strip)) (a .capacity) long) (le-leb _ _ (total-le (a .strip)))))
+    (eq-eqb _ _ (z .words)) (eq-eqb _ _ (z .counters))
 
 -- then the lines after them decide
 lines-decide : (a : StripState) (lines : List Line) → Sized a → length (a .strip) ≤ a .capacity

@@ -1,5 +1,5 @@
 -- The machine's own step is one that each call's promise allows, so that from a good state every list of calls is some list of the unit's calls. Assumes nothing.
-use mathlib.Core.Path.{_≡_, refl, sym, ap, subst, _∙_}
+use mathlib.Core.Path.{_≡_, refl, sym, ap, subst, subst₂, _∙_}
 use mathlib.Core.Bool.{Bool, true, false, cond}
 use mathlib.Core.Logic.{_⊎_, inl, inr}
 use mathlib.Core.List.{List, [], _∷_, _++_}
@@ -15,26 +15,28 @@ use Rattle.words.specs.Strip as strip
 use Rattle.words.specs.Strip.{cell}
 use Rattle.words.specs.Refusals.{_⇒_, judge, unless, value, found}
 use Rattle.words.specs.Handles.{handle, handleOf}
-use Rattle.words.specs.Calls.{valueLine, belowLine}
+use Rattle.words.specs.Calls.{valueLine, belowLine, absentLine}
 use Rattle.words.proofs.Sums.{lt-or, length-listOf}
-use Rattle.words.proofs.SearchLaws.{rank-le, select-place}
-use Rattle.words.proofs.StripLaws.{strip-length}
+use Rattle.words.proofs.SearchLaws.{rank-le, select-exists, select-place}
+use Rattle.words.proofs.StripLaws.{total-number}
 use Rattle.words.proofs.CheckLaws.{not-both, passes, passed-both}
 use Rattle.counters.specs.Tree.{blocksOf, counter, counts, changeCount}
 use Rattle.counters.specs.Record.{StripRecord, packedWords, builtCounters}
-use Rattle.counters.specs.Promises.{Promise, BitPut, PathMoved, Near, AtMost, Below}
-use Rattle.counters.specs.Calls.{checks, heldStrip, rebuilt, pushTable, flipTable}
+use Rattle.counters.specs.Promises.{Promise, BitPut, PathMoved, Near, AtMost, PlaceBelow, Below}
+use Rattle.counters.specs.Calls.{checks, heldStrip, rebuilt, pushTable, flipTable, moveTable, totalMoved, selectTable}
 use Rattle.image.specs.Chain.{kindOf}
 use Rattle.image.specs.Rows.{rowBits}
 use Rattle.image.specs.Calls.{rowPart, rowLength}
 use Rattle.counters.proofs.AfreshLaws.{words-length, counters-length, counters-at, counter-ext, bitAt-packed}
 use Rattle.counters.proofs.FlipLaws.{counter-flip, changeCount-le}
 use Rattle.counters.proofs.NumberLaws.{push-cell}
+use Rattle.counters.proofs.ChangeLaws.{push-total, set-total}
+use Rattle.counters.proofs.PromiseLaws.{move-judged}
 use Rattle.counters.proofs.AgainLaws.{push-bits, set-bits}
 use Rattle.machine.specs.Machine.{StripState, ShelfState, State, StripCall, create, push, flip, fill, truncate, get, rank, select, successor, predecessor, verify, ShelfCall, clear, freeze, inspect, rowRank, rowSelect, rowGet, Call, onStrip, onShelf, Step, through, flipped, stripMove, shelfMove, move, run, outputs}
 use Rattle.machine.specs.Unit.{UnitState, afreshStrip, afreshImage, afresh, BySome, StripActed, ShelfActed, Acted}
 use Rattle.machine.specs.Demand.{Trace, stop, more, startOf, SomeTrace, EveryListRuns}
-use Rattle.machine.proofs.StateLaws.{StripGood, ShelfGood, Good, sized, strip-is}
+use Rattle.machine.proofs.StateLaws.{StripGood, ShelfGood, Good, sized, strip-is, fits}
 use Rattle.machine.proofs.StripStepLaws.{strip-step}
 use Rattle.machine.proofs.ShelfStepLaws.{shelf-step}
 use Rattle.machine.proofs.ListLaws.{next-good}
@@ -78,7 +80,15 @@ some-by table refuse late Fit Loose by loose =
 count-free : (wrong : ℕ) (s : List ℕ) (v i : ℕ) → AtMost wrong i (value (strip.rank s v i))
 count-free wrong s v i = AtMost.is (strip.rank s v i) (omega (arith, rank-le (cell s) v (min i (length s))))
 
--- a find is below the length, or 6
+-- a find of a stroke that is there is below the length
+place-free : (wrong : ℕ) (s : List ℕ) (v k : ℕ) → ((p : ℕ) → cell s p ≤ 1) → v ≤ 1 → k < strip.ofValue v (length s) (strip.totalOf s)
+    → PlaceBelow wrong (length s) (found (strip.select s v k))
+place-free wrong s v k bits small there =
+    let w = select-exists (cell s) (length s) v k (omega (arith, there, total-number s v bits small)) in
+    subst (λ (o : Option ℕ). PlaceBelow wrong (length s) (found o)) (sym (w .1))
+    (PlaceBelow.is (w .0) (select-place (cell s) (length s) v k (w .0) (w .1) .below))
+
+-- a find on a row is below the length, or 6
 find-free : (wrong : ℕ) (s : List ℕ) (n v k : ℕ) → length s ≡ n → Below wrong n (found (strip.select s v k))
 find-free wrong s n v k e = go (strip.select s v k) refl
   where
@@ -129,10 +139,10 @@ module _ (c : ℕ) (s t : List ℕ) (p b : ℕ) (whole : c % 512 ≡ 0) (within 
       }
 
   -- what add and turn do is free on any record
-  change-free : (n x number : ℕ) → length t ≡ n → number ≤ 45
-      → Near (handleOf c s) (handle c n) x p b (packedWords c s) (builtCounters c s) (rebuilt c t x number)
-  change-free n x number e most =
-      subst (λ (m : ℕ). Near (handleOf c s) (handle c m) x p b (packedWords c s) (builtCounters c s) (rebuilt c t x number)) e
+  change-free : (n u x number : ℕ) → length t ≡ n → strip.totalOf t ≡ u → number ≤ 45
+      → Near (handleOf c s) (handle c n u) x p b (packedWords c s) (builtCounters c s) (rebuilt c t x number)
+  change-free n u x number e d most =
+      subst₂ (λ (m k : ℕ). Near (handleOf c s) (handle c m k) x p b (packedWords c s) (builtCounters c s) (rebuilt c t x number)) e d
       (Near.near number (packedWords c t) (builtCounters c t) most bit-put path-moved)
 
 -- ---- the calls on the strip
@@ -149,7 +159,8 @@ module _ (a : StripState) (g : StripGood a) where
       go false = omega arith
 
   push-free : (v : ℕ) → judge (pushTable (r .handle) (length (r .words)) (length (r .counters)) v) ≡ none
-      → Near (r .handle) (handle (a .capacity) (length (a .strip) + 1)) (length (a .strip)) (length (a .strip)) v (r .words) (r .counters)
+      → Near (r .handle) (handle (a .capacity) (length (a .strip) + 1) (strip.totalOf (a .strip) + v))
+      (length (a .strip)) (length (a .strip)) v (r .words) (r .counters)
       (rebuilt (a .capacity) (heldStrip (r .handle) (r .words) ++ (v ∷ [])) (length (a .strip))
       (cond (eqb v 1) (changeCount (blocksOf (a .capacity)) (length (a .strip))) 0))
   push-free v pass =
@@ -159,43 +170,56 @@ module _ (a : StripState) (g : StripGood a) where
       let long : length (a .strip ++ (v ∷ [])) ≡ length (a .strip) + 1 = omega (arith, length-append (a .strip) (v ∷ []), one) in
       let room : length (a .strip) < a .capacity = leb-false _ _ (l .1 .0) in
       subst (λ (u : List ℕ).
-      Near (r .handle) (handle (a .capacity) (length (a .strip) + 1)) (length (a .strip)) (length (a .strip)) v (r .words) (r .counters)
+      Near (r .handle) (handle (a .capacity) (length (a .strip) + 1) (strip.totalOf (a .strip) + v))
+      (length (a .strip)) (length (a .strip)) v (r .words) (r .counters)
       (rebuilt (a .capacity) (u ++ (v ∷ [])) (length (a .strip)) (cond (eqb v 1) (changeCount (blocksOf (a .capacity)) (length (a .strip))) 0)))
       (sym (strip-is a g))
       (change-free (a .capacity) (a .strip) (a .strip ++ (v ∷ [])) (length (a .strip)) v (sized a g .step) (sized a g .long) (omega arith) (g .bits)
       (push-bits (a .strip) v (g .bits) (ltb-false _ _ (l .0))) (getD-append-seam (a .strip) v [] 0) (push-cell (a .strip) v)
-      (length (a .strip) + 1) (length (a .strip)) _ long (push-number v))
+      (length (a .strip) + 1) (strip.totalOf (a .strip) + v) (length (a .strip)) _ long (push-total (a .strip) v (ltb-false _ _ (l .0))) (push-number v))
 
   -- turn
-  flip-free : (i : ℕ) → judge (flipTable (r .handle) (length (r .words)) (length (r .counters)) i) ≡ none
-      → Near (r .handle) (r .handle) (1 - cell (heldStrip (r .handle) (r .words)) i) i (1 - cell (heldStrip (r .handle) (r .words)) i) (r .words) (r .counters)
+  flip-free : (i : ℕ) → judge (moveTable (r .handle) (r .words) (length (r .counters)) i) ≡ none
+      → Near (r .handle) (totalMoved (r .handle) (1 - cell (heldStrip (r .handle) (r .words)) i)) (1 - cell (heldStrip (r .handle) (r .words)) i) i
+      (1 - cell (heldStrip (r .handle) (r .words)) i) (r .words) (r .counters)
       (rebuilt (a .capacity) (flipped (heldStrip (r .handle) (r .words)) i) (1 - cell (heldStrip (r .handle) (r .words)) i)
       (changeCount (blocksOf (a .capacity)) i))
   flip-free i pass =
       let ls = belowLine (length (a .strip)) i ∷ [] in
-      let l = passes ls (passed-both (checks (r .handle) (length (r .words)) (length (r .counters))) ls pass .1) in
+      let first : judge (flipTable (r .handle) (length (r .words)) (length (r .counters)) i) ≡ none =
+      sym (move-judged (r .handle) (r .words) (r .counters) i (fits a g)) ∙ pass in
+      let l = passes ls (passed-both (checks (r .handle) (length (r .words)) (length (r .counters))) ls first .1) in
       let below : i < length (a .strip) = leb-false _ _ (l .0) in
       let b : ℕ = 1 - cell (a .strip) i in
       let long : length (set (a .strip) i b) ≡ length (a .strip) = length-set (a .strip) i b in
       subst (λ (u : List ℕ).
-      Near (r .handle) (r .handle) (1 - cell u i) i (1 - cell u i) (r .words) (r .counters)
+      Near (r .handle) (totalMoved (r .handle) (1 - cell u i)) (1 - cell u i) i (1 - cell u i) (r .words) (r .counters)
       (rebuilt (a .capacity) (flipped u i) (1 - cell u i) (changeCount (blocksOf (a .capacity)) i)))
       (sym (strip-is a g))
       (change-free (a .capacity) (a .strip) (set (a .strip) i b) i b (sized a g .step) (sized a g .long) (omega (arith, sized a g .long)) (g .bits)
       (set-bits (a .strip) i b (g .bits) (omega arith)) (getD-set-same (a .strip) i b 0 below) (λ q d. getD-set-other (a .strip) i q b 0 d)
-      (length (a .strip)) b (changeCount (blocksOf (a .capacity)) i) long (changeCount-le (blocksOf (a .capacity)) i))
+      (length (a .strip)) (totalMoved (r .handle) b .total) b (changeCount (blocksOf (a .capacity)) i) long (set-total (a .strip) i below (g .bits i))
+      (changeCount-le (blocksOf (a .capacity)) i))
+
+  -- find
+  select-free : (v k : ℕ) → judge (selectTable (r .handle) (length (r .words)) (length (r .counters)) v k) ≡ none
+      → PlaceBelow 9 (length (a .strip)) (found (strip.select (heldStrip (r .handle) (r .words)) v k))
+  select-free v k pass =
+      let ls = valueLine v ∷ absentLine (strip.ofValue v (length (a .strip)) (strip.totalOf (a .strip))) k ∷ [] in
+      let l = passes ls (passed-both (checks (r .handle) (length (r .words)) (length (r .counters))) ls pass .1) in
+      subst (λ (u : List ℕ). PlaceBelow 9 (length (a .strip)) (found (strip.select u v k))) (sym (strip-is a g))
+      (place-free 9 (a .strip) v k (g .bits) (ltb-false _ _ (l .0)) (leb-false _ _ (l .1 .0)))
 
   -- each call's promise allows a step
   strip-allows : (k : StripCall) → Allows (StripActed k r)
   strip-allows (create c) = exactly _
   strip-allows (push v) = some-by (judge (pushTable (r .handle) (length (r .words)) (length (r .counters)) v)) _ _ _ _ _ (push-free v)
-  strip-allows (flip i) = some-by (judge (flipTable (r .handle) (length (r .words)) (length (r .counters)) i)) _ _ _ _ _ (flip-free i)
+  strip-allows (flip i) = some-by (judge (moveTable (r .handle) (r .words) (length (r .counters)) i)) _ _ _ _ _ (flip-free i)
   strip-allows (fill p q v) = exactly _
   strip-allows (truncate n) = exactly _
   strip-allows (get i) = exactly _
   strip-allows (rank v i) = some-by _ _ _ _ _ _ (λ e. count-free 9 (heldStrip (r .handle) (r .words)) v i)
-  strip-allows (select v k) =
-      some-by _ _ _ _ _ _ (λ e. find-free 9 (heldStrip (r .handle) (r .words)) (length (a .strip)) v k (strip-length (r .words) (length (a .strip))))
+  strip-allows (select v k) = some-by (judge (selectTable (r .handle) (length (r .words)) (length (r .counters)) v k)) _ _ _ _ _ (select-free v k)
   strip-allows (successor v i) = exactly _
   strip-allows (predecessor v i) = exactly _
   strip-allows verify = exactly _

@@ -41,12 +41,12 @@ abbrev over : List ℕ → ℕ → ShelfState
 over lent n = record { rows = []; base = lent; bytes = n }
 
 row-step : (lent : List ℕ) → length lent ≡ 560 → shelfMove S (bare lent) (freeze 3) ≡ accepted (frozenOver lent) 1 0
-unfolding sizesOf rowOf
+unfolding sizesOf rowOf sumTo
 row-step lent e =
     subst (λ (n : ℕ). shelfMove S (over lent n) (freeze 3) ≡ accepted (withRows (over lent n) (frozenOver lent .rows) lent) 1 0) (sym e) refl
 
 row-short : (lent : List ℕ) → length lent ≡ 559 → shelfMove S (bare lent) (freeze 3) ≡ refuses (bare lent) 13
-unfolding sizesOf rowOf
+unfolding sizesOf rowOf sumTo
 row-short lent e = subst (λ (n : ℕ). shelfMove S (over lent n) (freeze 3) ≡ refuses (over lent n) 13) (sym e) refl
 
 -- and its record ends with them

@@ -60,12 +60,14 @@ module _ (c order : ℕ) (ws cs im : List ℕ) (p : openingOf c order ws cs im �
       λ i. unitState (stripRecord (handleOf c []) (f i) (h i)) (j i)
 
 -- ---- the three ends of `execute`
--- the header over the first three answers
-header : (l rest : List ℕ) (a b d : ℕ) → headAnswers ≤ length l → set (set (set (take headAnswers l ++ rest) 0 a) 1 b) 2 d ≡ a ∷ b ∷ d ∷ rest
-header [] rest a b d h = absurd (omega arith)
-header (x ∷ []) rest a b d h = absurd (omega arith)
-header (x ∷ y ∷ []) rest a b d h = absurd (omega arith)
-header (x ∷ y ∷ z ∷ l) rest a b d h = refl
+-- the header over the first four answers
+header : (l rest : List ℕ) (a b d e : ℕ) → headAnswers ≤ length l
+    → set (set (set (set (take headAnswers l ++ rest) 0 a) 1 b) 2 d) 3 e ≡ a ∷ b ∷ d ∷ e ∷ rest
+header [] rest a b d e h = absurd (omega arith)
+header (x ∷ []) rest a b d e h = absurd (omega arith)
+header (x ∷ y ∷ []) rest a b d e h = absurd (omega arith)
+header (x ∷ y ∷ z ∷ []) rest a b d e h = absurd (omega arith)
+header (x ∷ y ∷ z ∷ w ∷ l) rest a b d e h = refl
 
 module _ (script : List ℕ) (c order : ℕ) (ws cs im ans : List ℕ) where
   abbrev n : ℕ
@@ -96,7 +98,7 @@ module _ (script : List ℕ) (c order : ℕ) (ws cs im ans : List ℕ) where
 
   -- the calls run
   pub executed-ran : (x z : UnitState) (mid ans′ : List ℕ) → answersFor n ≤ length ans → openingOf c order ws cs im ≡ none → x ≡ afresh s
-      → Looped script x ans z mid → ans′ ≡ set (set (set mid 0 0) 1 (z .strip .handle .capacity)) 2 (z .strip .handle .length)
+      → Looped script x ans z mid → ans′ ≡ set (set (set (set mid 0 0) 1 (z .strip .handle .capacity)) 2 (z .strip .handle .length)) 3 (z .strip .handle .total)
       → Executed script c order ws cs im ans (ended n (z .strip .words) (z .strip .counters) (z .image) ans′)
   unfolding executed
   executed-ran x z mid ans′ l p opened looped put =
@@ -107,8 +109,8 @@ module _ (script : List ℕ) (c order : ℕ) (ws cs im ans : List ℕ) where
       let same = every-list t s g refl .same in
       let ended-so : ended n (z .strip .words) (z .strip .counters) (z .image) ans′ ≡ ranTo n z (looped .out) ans =
       ap (λ (q : List ℕ). ended n (z .strip .words) (z .strip .counters) (z .image) q)
-      (put ∙ ap (λ (q : List ℕ). set (set (set q 0 0) 1 (h .capacity)) 2 (h .length)) (looped .told)
-      ∙ header ans rest 0 (h .capacity) (h .length) (omega arith)) in
+      (put ∙ ap (λ (q : List ℕ). set (set (set (set q 0 0) 1 (h .capacity)) 2 (h .length)) 3 (h .total)) (looped .told)
+      ∙ header ans rest 0 (h .capacity) (h .length) (h .total) (omega arith)) in
       record {
         whole = simp (le-ltb (length ans) (answersFor n) l)
             (ended-so ∙ ap₂ (λ (y : UnitState) (out : List ℕ). ranTo n y out ans) (same .end) (same .answers) ∙ sym (ap opening p));

@@ -8,8 +8,9 @@ use lib.Dec.{eqb}
 use borrow.Author.Tests.{eq-eqb, ne-eqb}
 use Rattle.words.specs.Strip.{orElse}
 use Rattle.words.specs.Refusals.{judge}
-use Rattle.words.specs.Handles.{handleOf}
+use Rattle.words.specs.Handles.{handle, handleOf}
 use Rattle.words.specs.declared.handle.Handle.{Handle}
+use Rattle.words.proofs.StripLaws.{handle-none}
 use Rattle.words.proofs.CheckLaws.{judge-append}
 use Rattle.counters.specs.Calls.{checks}
 use Rattle.image.specs.Chain.{goodSize}
@@ -33,9 +34,9 @@ create-first c order words counters bytes o h e =
     ∙ ap (λ (p : Option ℕ). orElse p (judge (clearTable bytes))) e
 
 -- what lay says, by what is said of its handle
-pub create-says : (c words counters : ℕ) (h : Handle) (o : Option ℕ) → h ≡ handleOf c [] → o ≡ judge (checks h words counters)
+pub create-says : (c words counters : ℕ) (h : Handle) (o : Option ℕ) → h ≡ handle c 0 0 → o ≡ judge (checks h words counters)
     → judge (checks (handleOf c []) words counters) ≡ o
-create-says c words counters h o d e = sym (e ∙ ap (λ (g : Handle). judge (checks g words counters)) d)
+create-says c words counters h o d e = sym (e ∙ ap (λ (g : Handle). judge (checks g words counters)) (d ∙ handle-none c))
 
 -- what clear says, by the image's size
 pub clear-refuses : (bytes : ℕ) → goodSize bytes ≡ false → judge (clearTable bytes) ≡ some 13

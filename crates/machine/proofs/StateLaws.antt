@@ -7,13 +7,15 @@ use Prim.Native.Nat.{ℕ, _≤_}
 use lib.Dec.{eqb, leb}
 use native.Mathlib.Omega.{arith}
 use lib.ListN.{length, drop}
-use borrow.Author.Tests.{eqb-true, leb-true, le-leb}
+use borrow.Author.Tests.{eqb-true, eq-eqb, leb-true, le-leb}
 use Rattle.words.specs.Bits.{same}
-use Rattle.words.specs.Strip.{cell, stripOf}
+use Rattle.words.specs.Strip.{cell, stripOf, totalOf}
 use Rattle.words.specs.Refusals.{judge, unless, value, refused}
-use Rattle.words.specs.Handles.{handle, handleOf, allowed, good, stripLines}
+use Rattle.words.specs.Handles.{handleOf, allowed, good, stripLines}
+use Rattle.words.specs.declared.handle.Handle.{Handle}
 use Rattle.words.proofs.BoolLaws.{and-intro, and-first, and-second, not-not}
 use Rattle.words.proofs.SameLaws.{same-refl}
+use Rattle.words.proofs.StripLaws.{total-le}
 use Rattle.words.proofs.CheckLaws.{passes, Checked, checked}
 use Rattle.counters.specs.Tree.{blocksOf, counterCount}
 use Rattle.counters.specs.Record.{Fits, packedWords, builtCounters}
@@ -52,14 +54,17 @@ pub record Good (s : State) : Type 0 where
   pub strip : StripGood (s .strip)
   pub shelf : ShelfGood (s .shelf)
 
--- the checks pass for every length up to the capacity
-pub passes-length : (c n m words counters : ℕ) → judge (checks (handle c n) words counters) ≡ none → m ≤ c
-    → judge (checks (handle c m) words counters) ≡ none
-passes-length c n m words counters p h =
-    let counted : Bool = eqb counters (counterCount (blocksOf c)) in
-    let w = passes (stripLines (handle c n) words counted) p in
-    let a : allowed c ≡ true = and-first (allowed c) (leb n c) (not-not (good (handle c n)) (w .0)) in
-    simp (a, le-leb m c h, w .1 .0, w .1 .1 .0)
+-- the checks pass for every strip up to the capacity
+pub passes-strip : (h : Handle) (s : List ℕ) (words counters : ℕ) → judge (checks h words counters) ≡ none → length s ≤ h .capacity
+    → judge (checks (handleOf (h .capacity) s) words counters) ≡ none
+passes-strip h s words counters p l =
+    let counted : Bool = eqb counters (counterCount (blocksOf (h .capacity))) in
+    let w = passes (stripLines h words counted) p in
+    let a : allowed (h .capacity) ≡ true =
+    and-first (allowed (h .capacity)) (leb (h .length) (h .capacity) && leb (h .total) (h .length)) (not-not (good h) (w .0)) in
+    let g : good (handleOf (h .capacity) s) ≡ true =
+    and-intro a (and-intro (le-leb (length s) (h .capacity) l) (le-leb (totalOf s) (length s) (total-le s))) in
+    simp (g, w .1 .0, w .1 .1 .0)
 
 -- ---- words and counters laid afresh from S
 module _ (a : StripState) (g : StripGood a) where
@@ -92,8 +97,9 @@ module _ (a : StripState) (g : StripGood a) where
   pub fitting-is : fitting (handleIn a) words counters ≡ true
   unfolding fitting
   fitting-is =
-      ap (λ (t : List ℕ). same words (packedWords (a .capacity) t) && same counters (builtCounters (a .capacity) t)) strip-is
-      ∙ and-intro (same-refl words) (same-refl counters)
+      ap (λ (t : List ℕ).
+      same words (packedWords (a .capacity) t) && (same counters (builtCounters (a .capacity) t) && eqb (totalOf (a .strip)) (totalOf t))) strip-is
+      ∙ and-intro (same-refl words) (and-intro (same-refl counters) (eq-eqb (totalOf (a .strip)) (totalOf (a .strip)) refl))
 
 -- ---- F written out over B
 module _ (b : ShelfState) (g : ShelfGood b) where

@@ -19,11 +19,11 @@ use Rattle.counters.specs.Tree.{blocksOf, counterCount}
 use Rattle.counters.specs.Record.{StripRecord, builtRecord}
 use Rattle.counters.specs.Promises.{CreatedTold, created, uncreated, Outcome, outcome, stays, Promise}
 use Rattle.counters.specs.Calls.{checks, heldStrip, rebuilt, pushTable, flipTable, fillTable, filled, truncateTable, rankTable, selectTable}
-use Rattle.counters.proofs.PromiseLaws.{promise-exact}
+use Rattle.counters.proofs.PromiseLaws.{promise-exact, move-judged}
 use Rattle.counters.proofs.AgainLaws.{push-bits, set-bits, filled-bits, filled-length, take-bits}
 use Rattle.machine.specs.Machine.{StripState, StripCall, create, push, flip, fill, truncate, get, rank, select, successor, predecessor, verify, Step, accepted, refuses, tells, through, handleIn, withStrip, changes, flipped, stripMove}
 use Rattle.machine.specs.Unit.{afreshStrip, byCreated, byChanged, BySome, StripActed}
-use Rattle.machine.proofs.StateLaws.{StripGood, passes-length, sized, words-are, counters-are, strip-is, fits, fitting-is}
+use Rattle.machine.proofs.StateLaws.{StripGood, passes-strip, sized, words-are, counters-are, strip-is, fits, fitting-is}
 
 -- ---- a step by its table
 -- an outcome is that of a machine's step where its refusals change nothing and what is done is the same
@@ -114,17 +114,21 @@ module _ (a : StripState) (g : StripGood a) where
   pub flip-step : (i : ℕ) (y : Step StripRecord) → StripActed (flip i) r y → y ≡ through afreshStrip (stripMove a (flip i))
   flip-step i y e =
       by-exact _ e (fits a g)
+      ∙ ap (λ (o : Option ℕ). byChanged
+      (unless o (stays (r .handle) (r .words) (r .counters))
+      (rebuilt (a .capacity) (flipped (heldStrip (r .handle) (r .words)) i) (1 - cell (heldStrip (r .handle) (r .words)) i) (changes a i))))
+      (move-judged (r .handle) (r .words) (r .counters) i (fits a g))
       ∙ changed-as (λ n m. judge (flipTable (r .handle) n m i)) (λ u. flipped u i) (λ u. 1 - cell u i) (λ u. changes a i)
 
   -- run
   pub fill-step : (p q v : ℕ) (y : Step StripRecord) → StripActed (fill p q v) r y → y ≡ through afreshStrip (stripMove a (fill p q v))
   fill-step p q v y e =
-      e ∙ changed-as (λ n m. judge (fillTable (r .handle) n m p q v)) (λ u. filled u p q v) (λ u. strip.rank (filled u p q v) 1 (length (a .strip))) (λ u. 0)
+      e ∙ changed-as (λ n m. judge (fillTable (r .handle) n m p q v)) (λ u. filled u p q v) (λ u. strip.totalOf (filled u p q v)) (λ u. 0)
 
   -- cut
   pub truncate-step : (n : ℕ) (y : Step StripRecord) → StripActed (truncate n) r y → y ≡ through afreshStrip (stripMove a (truncate n))
   truncate-step n y e =
-      e ∙ changed-as (λ k m. judge (truncateTable (r .handle) k m n)) (λ u. take n u) (λ u. strip.rank (take n u) 1 n) (λ u. 0)
+      e ∙ changed-as (λ k m. judge (truncateTable (r .handle) k m n)) (λ u. take n u) (λ u. strip.totalOf (take n u)) (λ u. 0)
 
   -- look
   pub get-step : (i : ℕ) (y : Step StripRecord) → StripActed (get i) r y → y ≡ through afreshStrip (stripMove a (get i))
@@ -152,8 +156,8 @@ module _ (a : StripState) (g : StripGood a) where
       e ∙ ap (λ (b : Bool).
       tells r
       (unless (judge (checks (r .handle) (length (r .words)) (length (r .counters)) ++ ((not b ⇒ 9) ∷ []))) refused
-      (value (strip.rank (heldStrip (r .handle) (r .words)) 1 (length (a .strip)))))) (fitting-is a g)
-      ∙ told-as (λ n m. judge (checks (r .handle) n m)) (λ u. value (strip.rank u 1 (length (a .strip))))
+      (value (strip.totalOf (heldStrip (r .handle) (r .words)))))) (fitting-is a g)
+      ∙ told-as (λ n m. judge (checks (r .handle) n m)) (λ u. value (strip.totalOf u))
 
   -- every call
   pub strip-step : (k : StripCall) (y : Step StripRecord) → StripActed k r y → y ≡ through afreshStrip (stripMove a k)
@@ -173,7 +177,7 @@ module _ (a : StripState) (g : StripGood a) where
   -- another strip of bits, not above the capacity
   with-good : (t : List ℕ) → ((p : ℕ) → cell t p ≤ 1) → length t ≤ a .capacity → StripGood (withStrip a t)
   with-good t b l =
-      record { passes = passes-length (a .capacity) (length (a .strip)) (length t) (a .words) (a .counters) (g .passes) l; bits = b }
+      record { passes = passes-strip (handleIn a) t (a .words) (a .counters) (g .passes) l; bits = b }
 
   -- the lines of a table after the checks
   lines : (ls : List Line) → judge (checks (handleIn a) (a .words) (a .counters) ++ ls) ≡ none → judge ls ≡ none
@@ -231,4 +235,4 @@ module _ (a : StripState) (g : StripGood a) where
   strip-good-next (select v k) = reads-good (judge (selectTable (handleIn a) (a .words) (a .counters) v k)) (found (strip.select (a .strip) v k))
   strip-good-next (successor v i) = reads-good (judge (valueTable (handleIn a) (a .words) untaken v i)) (found (strip.successor (a .strip) v i))
   strip-good-next (predecessor v i) = reads-good (judge (valueTable (handleIn a) (a .words) untaken v i)) (found (strip.predecessor (a .strip) v i))
-  strip-good-next verify = reads-good (judge (checks (handleIn a) (a .words) (a .counters))) (value (strip.rank (a .strip) 1 (length (a .strip))))
+  strip-good-next verify = reads-good (judge (checks (handleIn a) (a .words) (a .counters))) (value (strip.totalOf (a .strip)))

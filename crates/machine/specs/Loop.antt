@@ -8,7 +8,7 @@ use Rattle.machine.specs.Unit.{UnitState}
 use Rattle.machine.specs.Demand.{Trace}
 use Rattle.machine.specs.Runner.{headAnswers, answersFor, callsIn}
 
--- the calls of a script from x to z, and their answers after the first three places; all other places as they were
+-- the calls of a script from x to z, and their answers after the first four places; all other places as they were
 pub record Looped (script : List ℕ) (x : UnitState) (ans : List ℕ) (z : UnitState) (ans′ : List ℕ) : Type 0 where
   pub out : List ℕ
   pub trace : Trace x (decode script) out z

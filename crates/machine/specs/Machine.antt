@@ -119,7 +119,7 @@ through f m = record { next = f (m .next); refusal = m .refusal; first = m .firs
 
 -- The strip.
 
--- the handle with C and the length of S, for the tables of the strip calls
+-- the handle with C, the length of S and its ones, for the tables of the strip calls
 abbrev pub handleIn : StripState → Handle
 handleIn a = handleOf (a .capacity) (a .strip)
 
@@ -154,18 +154,18 @@ stripMove a (flip i) =
 -- run sets positions p to q - 1 to v
 stripMove a (fill p q v) =
     judged a (fillTable (handleIn a) (a .words) (a .counters) p q v)
-    (accepted (withStrip a (filled (a .strip) p q v)) (strip.rank (filled (a .strip) p q v) 1 (length (a .strip))) 0)
+    (accepted (withStrip a (filled (a .strip) p q v)) (strip.totalOf (filled (a .strip) p q v)) 0)
 -- cut keeps the first n
 stripMove a (truncate n) =
     judged a (truncateTable (handleIn a) (a .words) (a .counters) n)
-    (accepted (withStrip a (take n (a .strip))) (strip.rank (take n (a .strip)) 1 n) 0)
+    (accepted (withStrip a (take n (a .strip))) (strip.totalOf (take n (a .strip))) 0)
 -- the other calls on the strip change nothing
 stripMove a (get i) = judged a (belowTable (handleIn a) (a .words) untaken i) (accepted a (strip.cell (a .strip) i) 0)
 stripMove a (rank v i) = judged a (rankTable (handleIn a) (a .words) (a .counters) v i) (accepted a (strip.rank (a .strip) v i) 0)
 stripMove a (select v k) = judged a (selectTable (handleIn a) (a .words) (a .counters) v k) (tells a (found (strip.select (a .strip) v k)))
 stripMove a (successor v i) = judged a (valueTable (handleIn a) (a .words) untaken v i) (tells a (found (strip.successor (a .strip) v i)))
 stripMove a (predecessor v i) = judged a (valueTable (handleIn a) (a .words) untaken v i) (tells a (found (strip.predecessor (a .strip) v i)))
-stripMove a verify = judged a (checks (handleIn a) (a .words) (a .counters)) (accepted a (strip.rank (a .strip) 1 (length (a .strip))) 0)
+stripMove a verify = judged a (checks (handleIn a) (a .words) (a .counters)) (accepted a (strip.totalOf (a .strip)) 0)
 
 -- The shelf.
 

@@ -2,7 +2,7 @@
 use Prim.Native.Nat.{ℕ, _+_, _-_, _*_, _/_, _^_, _≤_}
 use mathlib.Core.Path.{_≡_}
 use mathlib.Core.Bool.{not, cond}
-use mathlib.Core.List.{List, [], _∷_, _++_}
+use mathlib.Core.List.{List, _∷_, _++_}
 use mathlib.Core.Option.{Option, none}
 use lib.ListN.{length, set, drop}
 use lib.Dec.{ltb, eqb}
@@ -10,12 +10,12 @@ use Rattle.words.specs.Refusals.{judge, unless}
 use Rattle.words.specs.declared.handle.Handle.{Handle}
 use Rattle.machine.specs.Machine.{State, Call, run, outputs, openingTable}
 use Rattle.machine.specs.Scripts.{callNumbers, decode}
-use Rattle.machine.specs.Unit.{UnitState, stripRecord, unitState, afresh}
+use Rattle.machine.specs.Unit.{UnitState, afresh}
 use Rattle.machine.specs.Demand.{Trace, Turns, start}
 
--- the places of answers: three before those of the calls, three for each call
+-- the places of answers: four before those of the calls, three for each call
 abbrev pub headAnswers : ℕ
-headAnswers = 3
+headAnswers = 4
 
 abbrev pub callAnswers : ℕ
 callAnswers = 3
@@ -38,9 +38,9 @@ pub record Ended : Type 0 where
 abbrev pub ended : ℕ → List ℕ → List ℕ → List ℕ → List ℕ → Ended
 ended n ws cs im ans = record { count = n; words = ws; counters = cs; image = im; answers = ans }
 
--- the answers of n calls: 0, capacity and length of the last handle, three numbers for each call; later places as they were
+-- the answers of n calls: 0, capacity, length and total of the last handle, three numbers for each call; later places as they were
 abbrev pub answersOver : ℕ → Handle → List ℕ → List ℕ → List ℕ
-answersOver n h out ans = (0 ∷ h .capacity ∷ h .length ∷ out) ++ drop (answersFor n) ans
+answersOver n h out ans = (0 ∷ h .capacity ∷ h .length ∷ h .total ∷ out) ++ drop (answersFor n) ans
 
 -- n calls run to x
 abbrev pub ranTo : ℕ → UnitState → List ℕ → List ℕ → Ended

@@ -26,7 +26,7 @@ unitState r im = record { strip = r; image = im }
 
 -- A machine's state as the unit has it.
 
--- the handle with C and the length of S, words and counters laid afresh from S
+-- the handle with C, the length of S and its ones, words and counters laid afresh from S
 abbrev pub afreshStrip : StripState → StripRecord
 afreshStrip a = builtRecord (a .capacity) (a .strip)
 

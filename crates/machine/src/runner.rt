@@ -7,7 +7,7 @@ ghost use lib.ListN.{length, set};
 ghost use Rattle.words.specs.Refusals.{judge, verdictOf};
 ghost use Rattle.machine.specs.Machine.{openingTable};
 ghost use Rattle.machine.specs.Unit.{stripRecord, unitState};
-ghost use Rattle.machine.specs.Runner.{answersFor, callsIn, ended, Executed};
+ghost use Rattle.machine.specs.Runner.{headAnswers, answersFor, callsIn, ended, Executed};
 ghost use Rattle.machine.specs.Loop.{Looped};
 use super::dispatch::step;
 use counters::check_record;
@@ -22,7 +22,7 @@ use words::number;
 // The numbers of a call in a script.
 const CALL_NUMBERS: usize = 4;
 // The answers before those of the calls.
-const HEAD_ANSWERS: usize = 3;
+const HEAD_ANSWERS: usize = 4;
 // The answers of a call.
 const CALL_ANSWERS: usize = 3;
 
@@ -36,7 +36,18 @@ fn put_answers(answers: &mut [u64], at: usize, a: u64, b: u64, c: u64)
     answers[at + 2] = c;
 }
 
-// Every call of a script, on handle h and any buffers; the answers after the first three places. Answers the handle last given back.
+// The answers before those of the calls: the opening is accepted, and h is the last handle.
+fn put_head(answers: &mut [u64], h: Handle)
+    requires { ⌜ headAnswers ≤ length (now answers) ⌝ }
+    ensures { λ _. ⌜ now (answers .exit) ≡ set (set (set (set (now (answers .entry)) 0 0) 1 (h .capacity)) 2 (h .length)) 3 (h .total) ⌝ }
+{
+    answers[0] = 0;
+    answers[1] = h.capacity as u64;
+    answers[2] = h.length as u64;
+    answers[3] = h.total as u64;
+}
+
+// Every call of a script, on handle h and any buffers; the answers after the first four places. Answers the handle last given back.
 fn run_calls(
     script: &[u64],
     h: Handle,
@@ -82,7 +93,7 @@ fn check_opening(
 ) -> Verdict
     ensures { λ r. ⌜ verdictOf r ≡ judge (openingTable capacity (not (eqb order 0)) words counters bytes) ⌝ }
 {
-    let record = check_record(Handle::new(capacity, 0), words, counters);
+    let record = check_record(Handle::new(capacity, 0, 0), words, counters);
     let sized = size_good(bytes);
     if order != 0 {
         if !sized {
@@ -100,9 +111,9 @@ fn check_opening(
 }
 
 // The opening lay and clear, then every call of a script. Clear's refusals are judged first where `order` is not 0; accepted, the two meet no common buffer.
-// Answers the number of calls run; 2^64 - 1, and nothing runs, where `answers` is too short for them. The answers: refusal of the opening or 0, capacity and
-// length of the last handle, then refusal or 0 and two values for each call. A refused opening writes its number alone, and 0 is answered. Numbers past the
-// last whole call are unread.
+// Answers the number of calls run; 2^64 - 1, and nothing runs, where `answers` is too short for them. The answers: refusal of the opening or 0, capacity,
+// length and total of the last handle, then refusal or 0 and two values for each call. A refused opening writes its number alone, and 0 is answered. Numbers
+// past the last whole call are unread.
 pub fn execute(
     script: &[u64],
     capacity: usize,
@@ -129,13 +140,13 @@ pub fn execute(
             clear(image);
             let h = run_calls(
                 script,
-                Handle::new(capacity, 0),
+                Handle::new(capacity, 0, 0),
                 words,
                 counters,
                 image,
                 answers,
             );
-            put_answers(answers, 0, 0, h.capacity as u64, h.length as u64);
+            put_head(answers, h);
             calls as u64
         }
     }

@@ -13,31 +13,31 @@ use Rattle.words.proofs.Sums.{lt-or}
 use Rattle.counters.specs.Promises.{ChangedTold, Outcome, outcome}
 use Rattle.waiting.specs.Calls.{WaitingRank, WaitingSelect}
 use Rattle.waiting.proofs.CallLaws.{waiting-rank-unique, waiting-select-unique}
-use Rattle.strips.specs.Exports.{changedFive, fiveOver, numbersOver, rankNumbers, selectNumbers, lent, lentAfter, reported, Reported, Written}
+use Rattle.strips.specs.Exports.{outNumbers, changedOut, outOver, numbersOver, rankNumbers, selectNumbers, lent, lentAfter, reported, Reported, Written}
 
--- a reading, under the handle made of the two numbers
+-- a reading, under the handle made of the three numbers
 pub coded-as : (P : Handle → Told → Type 0) (g h : Handle) (t : Told) (r : ℕ) → g ≡ h → P g t → r ≡ coded t → CodedAs (P h) r
 coded-as P g h t r e p c = record { told = t; holds = subst (λ (k : Handle). P k t) e p; code = c }
 
 -- a call whose outcome is fixed: too short an `out`
-pub reported-idle : {A : Type 0} (numbers : A → List ℕ) (ws cs os : List ℕ) (o : Outcome A) → length os < 5
+pub reported-idle : {A : Type 0} (numbers : A → List ℕ) (ws cs os : List ℕ) (o : Outcome A) → length os < outNumbers
     → lent ws cs os ≡ reported numbers ws cs os o
-reported-idle numbers ws cs os o l = sym (ap (λ (b : Bool). cond b (lent ws cs os) (lentAfter numbers os o)) (lt-ltb (length os) 5 l))
+reported-idle numbers ws cs os o l = sym (ap (λ (b : Bool). cond b (lent ws cs os) (lentAfter numbers os o)) (lt-ltb (length os) outNumbers l))
 
 -- and run
-pub reported-ran : {A : Type 0} (numbers : A → List ℕ) (ws cs os vs ds es : List ℕ) (t : A) (o : Outcome A) → 5 ≤ length os
-    → outcome t vs ds ≡ o → es ≡ fiveOver (numbers t) os → lent vs ds es ≡ reported numbers ws cs os o
+pub reported-ran : {A : Type 0} (numbers : A → List ℕ) (ws cs os vs ds es : List ℕ) (t : A) (o : Outcome A) → outNumbers ≤ length os
+    → outcome t vs ds ≡ o → es ≡ outOver (numbers t) os → lent vs ds es ≡ reported numbers ws cs os o
 reported-ran numbers ws cs os vs ds es t o le e w =
     ap (lent vs ds) w ∙ ap (lentAfter numbers os) e
-    ∙ sym (ap (λ (b : Bool). cond b (lent ws cs os) (lentAfter numbers os o)) (le-ltb (length os) 5 le))
+    ∙ sym (ap (λ (b : Bool). cond b (lent ws cs os) (lentAfter numbers os o)) (le-ltb (length os) outNumbers le))
 
 -- a change with a free part: too short an `out`
-pub some-idle : (P : Outcome ChangedTold → Type 0) (ws cs os : List ℕ) → length os < 5 → Reported P ws cs os (lent ws cs os)
+pub some-idle : (P : Outcome ChangedTold → Type 0) (ws cs os : List ℕ) → length os < outNumbers → Reported P ws cs os (lent ws cs os)
 some-idle P ws cs os l = record { idle = (λ h. refl); ran = (λ h. absurd (omega arith)) }
 
--- and run, under the handle made of the two numbers
-pub some-ran : (P : Handle → Outcome ChangedTold → Type 0) (g h : Handle) (ws cs os vs ds es : List ℕ) (t : ChangedTold) → g ≡ h → 5 ≤ length os
-    → P g (outcome t vs ds) → es ≡ fiveOver (changedFive t) os → Reported (P h) ws cs os (lent vs ds es)
+-- and run, under the handle made of the three numbers
+pub some-ran : (P : Handle → Outcome ChangedTold → Type 0) (g h : Handle) (ws cs os vs ds es : List ℕ) (t : ChangedTold) → g ≡ h → outNumbers ≤ length os
+    → P g (outcome t vs ds) → es ≡ outOver (changedOut t) os → Reported (P h) ws cs os (lent vs ds es)
 some-ran P g h ws cs os vs ds es t e le p w =
     record {
       idle = (λ l. absurd (omega arith));

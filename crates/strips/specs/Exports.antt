@@ -10,26 +10,30 @@ use Rattle.words.specs.Handles.{handle}
 use Rattle.counters.specs.Promises.{CreatedTold, created, uncreated, ChangedTold, done, kept, Outcome}
 use Rattle.waiting.specs.Calls.{RankTold, leastMost, unranked, SelectTold, fromTo, fromOn, unselected}
 
--- five numbers: refusal or 0, first value, second value or 0, capacity and length of the handle to go on with
-abbrev pub five : ℕ → ℕ → ℕ → Handle → List ℕ
-five n x y h = n ∷ x ∷ y ∷ h .capacity ∷ h .length ∷ []
+-- how many numbers a change writes to `out`
+abbrev pub outNumbers : ℕ
+outNumbers = 6
 
-abbrev pub changedFive : ChangedTold → List ℕ
-changedFive (done h x y) = five 0 x y h
-changedFive (kept h n) = five n 0 0 h
+-- these are: refusal or 0, first value, second value or 0, capacity, length and total of the handle to go on with
+abbrev pub outWith : ℕ → ℕ → ℕ → Handle → List ℕ
+outWith n x y h = n ∷ x ∷ y ∷ h .capacity ∷ h .length ∷ h .total ∷ []
 
--- a refused lay gives no handle: 0, 0
-abbrev pub createdFive : CreatedTold → List ℕ
-createdFive (created h x) = five 0 x 0 h
-createdFive (uncreated n) = five n 0 0 (handle 0 0)
+abbrev pub changedOut : ChangedTold → List ℕ
+changedOut (done h x y) = outWith 0 x y h
+changedOut (kept h n) = outWith n 0 0 h
+
+-- a refused lay gives no handle: 0, 0, 0
+abbrev pub createdOut : CreatedTold → List ℕ
+createdOut (created h x) = outWith 0 x 0 h
+createdOut (uncreated n) = outWith n 0 0 (handle 0 0 0)
 
 -- the first n numbers of `out` are xs, those past them stay
 abbrev pub numbersOver : ℕ → List ℕ → List ℕ → List ℕ
 numbersOver n xs out = xs ++ drop n out
 
--- the same of five
-abbrev pub fiveOver : List ℕ → List ℕ → List ℕ
-fiveOver = numbersOver 5
+-- the same of those that a change writes
+abbrev pub outOver : List ℕ → List ℕ → List ℕ
+outOver = numbersOver outNumbers
 
 -- the three lent buffers
 pub record Lent : Type 0 where
@@ -42,11 +46,11 @@ lent ws cs os = record { words = ws; counters = cs; out = os }
 
 -- the buffers after a call with this outcome
 abbrev pub lentAfter : {A : Type 0} → (A → List ℕ) → List ℕ → Outcome A → Lent
-lentAfter numbers os o = lent (o .words) (o .counters) (fiveOver (numbers (o .told)) os)
+lentAfter numbers os o = lent (o .words) (o .counters) (outOver (numbers (o .told)) os)
 
--- `out` has fewer than five numbers: nothing runs
+-- `out` has fewer than six numbers: nothing runs
 abbrev pub short : List ℕ → Bool
-short os = ltb (length os) 5
+short os = ltb (length os) outNumbers
 
 -- a call whose outcome is fixed
 abbrev pub reported : {A : Type 0} → (A → List ℕ) → List ℕ → List ℕ → List ℕ → Outcome A → Lent
@@ -56,11 +60,11 @@ reported numbers ws cs os o = cond (short os) (lent ws cs os) (lentAfter numbers
 pub record ChangeRan (P : Outcome ChangedTold → Type 0) (os : List ℕ) (l : Lent) : Type 0 where
   pub outcome : Outcome ChangedTold
   pub holds : P outcome
-  pub same : l ≡ lentAfter changedFive os outcome
+  pub same : l ≡ lentAfter changedOut os outcome
 
 pub record Reported (P : Outcome ChangedTold → Type 0) (ws cs os : List ℕ) (l : Lent) : Type 0 where
-  pub idle : length os < 5 → l ≡ lent ws cs os
-  pub ran : 5 ≤ length os → ChangeRan P os l
+  pub idle : length os < outNumbers → l ≡ lent ws cs os
+  pub ran : outNumbers ≤ length os → ChangeRan P os l
 
 -- the three numbers of a waiting count: refusal or 0, the least, the most
 abbrev pub rankNumbers : RankTold → List ℕ

@@ -30,15 +30,16 @@ pub extern "C" fn image_clear(image: &mut [u8]) -> u64
 pub extern "C" fn image_freeze(
     capacity: u64,
     length: u64,
+    total: u64,
     words: &[u64],
     image: &mut [u8],
     label: u64,
 ) -> u64
-    ensures { λ r. ⌜ (r ≡ codedOf (freezeOutcome (handle capacity length) (now (words .entry)) (now (image .entry)) label .told)) ×
-        (now (image .exit) ≡ freezeOutcome (handle capacity length) (now (words .entry)) (now (image .entry)) label .image) ⌝ }
+    ensures { λ r. ⌜ (r ≡ codedOf (freezeOutcome (handle capacity length total) (now (words .entry)) (now (image .entry)) label .told)) ×
+        (now (image .exit) ≡ freezeOutcome (handle capacity length total) (now (words .entry)) (now (image .entry)) label .image) ⌝ }
 {
     coded(freeze(
-        Handle::new(capacity as usize, length as usize),
+        Handle::new(capacity as usize, length as usize, total as usize),
         words,
         image,
         label as usize,

@@ -40,4 +40,5 @@ pub use wait::strip_waiting_count;
 pub use wait::strip_waiting_find;
 
 // For the exports of tests.
-pub use record::write_five;
+pub use record::OUT_NUMBERS;
+pub use record::write_out;

@@ -1,4 +1,5 @@
-// The calls that compare two strips, each on its words alone: the first strip's capacity, length and words, then the second's. A refusal comes as 2^32 plus its number.
+// The calls that compare two strips, each on its words alone: the first strip's capacity, length, total and words, then the second's. A refusal comes as 2^32
+// plus its number.
 ghost use mathlib.Core.Path.{_≡_};
 ghost use Rattle.words.specs.Refusals.{coded as codedOf};
 ghost use Rattle.words.specs.Handles.{handle};
@@ -17,19 +18,22 @@ fn rule_rank(
     rule: Rule,
     capacity: u64,
     length: u64,
+    total: u64,
     words: &[u64],
     capacity2: u64,
     length2: u64,
+    total2: u64,
     words2: &[u64],
     i: u64,
 ) -> u64
-    ensures { λ r. ⌜ r ≡ codedOf (pairRankTold (ruleOf rule) (handle capacity length) (now (words .entry)) (handle capacity2 length2) (now (words2 .entry)) i) ⌝ }
+    ensures { λ r. ⌜ r ≡ codedOf (pairRankTold (ruleOf rule) (handle capacity length total) (now (words .entry))
+        (handle capacity2 length2 total2) (now (words2 .entry)) i) ⌝ }
 {
     coded(pair_rank(
         rule,
-        Handle::new(capacity as usize, length as usize),
+        Handle::new(capacity as usize, length as usize, total as usize),
         words,
-        Handle::new(capacity2 as usize, length2 as usize),
+        Handle::new(capacity2 as usize, length2 as usize, total2 as usize),
         words2,
         i as usize,
     ))
@@ -40,21 +44,26 @@ fn rule_rank(
 pub extern "C" fn strip_pair_both(
     capacity: u64,
     length: u64,
+    total: u64,
     words: &[u64],
     capacity2: u64,
     length2: u64,
+    total2: u64,
     words2: &[u64],
     i: u64,
 ) -> u64
-    ensures { λ r. ⌜ r ≡ codedOf (pairRankTold both (handle capacity length) (now (words .entry)) (handle capacity2 length2) (now (words2 .entry)) i) ⌝ }
+    ensures { λ r. ⌜ r ≡ codedOf (pairRankTold both (handle capacity length total) (now (words .entry))
+        (handle capacity2 length2 total2) (now (words2 .entry)) i) ⌝ }
 {
     rule_rank(
         Rule::Both,
         capacity,
         length,
+        total,
         words,
         capacity2,
         length2,
+        total2,
         words2,
         i,
     )
@@ -65,21 +74,26 @@ pub extern "C" fn strip_pair_both(
 pub extern "C" fn strip_pair_either(
     capacity: u64,
     length: u64,
+    total: u64,
     words: &[u64],
     capacity2: u64,
     length2: u64,
+    total2: u64,
     words2: &[u64],
     i: u64,
 ) -> u64
-    ensures { λ r. ⌜ r ≡ codedOf (pairRankTold either (handle capacity length) (now (words .entry)) (handle capacity2 length2) (now (words2 .entry)) i) ⌝ }
+    ensures { λ r. ⌜ r ≡ codedOf (pairRankTold either (handle capacity length total) (now (words .entry))
+        (handle capacity2 length2 total2) (now (words2 .entry)) i) ⌝ }
 {
     rule_rank(
         Rule::Either,
         capacity,
         length,
+        total,
         words,
         capacity2,
         length2,
+        total2,
         words2,
         i,
     )
@@ -90,21 +104,26 @@ pub extern "C" fn strip_pair_either(
 pub extern "C" fn strip_pair_only_first(
     capacity: u64,
     length: u64,
+    total: u64,
     words: &[u64],
     capacity2: u64,
     length2: u64,
+    total2: u64,
     words2: &[u64],
     i: u64,
 ) -> u64
-    ensures { λ r. ⌜ r ≡ codedOf (pairRankTold onlyFirst (handle capacity length) (now (words .entry)) (handle capacity2 length2) (now (words2 .entry)) i) ⌝ }
+    ensures { λ r. ⌜ r ≡ codedOf (pairRankTold onlyFirst (handle capacity length total) (now (words .entry))
+        (handle capacity2 length2 total2) (now (words2 .entry)) i) ⌝ }
 {
     rule_rank(
         Rule::OnlyFirst,
         capacity,
         length,
+        total,
         words,
         capacity2,
         length2,
+        total2,
         words2,
         i,
     )
@@ -115,21 +134,26 @@ pub extern "C" fn strip_pair_only_first(
 pub extern "C" fn strip_pair_differ(
     capacity: u64,
     length: u64,
+    total: u64,
     words: &[u64],
     capacity2: u64,
     length2: u64,
+    total2: u64,
     words2: &[u64],
     i: u64,
 ) -> u64
-    ensures { λ r. ⌜ r ≡ codedOf (pairRankTold differ (handle capacity length) (now (words .entry)) (handle capacity2 length2) (now (words2 .entry)) i) ⌝ }
+    ensures { λ r. ⌜ r ≡ codedOf (pairRankTold differ (handle capacity length total) (now (words .entry))
+        (handle capacity2 length2 total2) (now (words2 .entry)) i) ⌝ }
 {
     rule_rank(
         Rule::Differ,
         capacity,
         length,
+        total,
         words,
         capacity2,
         length2,
+        total2,
         words2,
         i,
     )
@@ -140,19 +164,22 @@ pub extern "C" fn strip_pair_differ(
 pub extern "C" fn strip_pair_find(
     capacity: u64,
     length: u64,
+    total: u64,
     words: &[u64],
     capacity2: u64,
     length2: u64,
+    total2: u64,
     words2: &[u64],
     k: u64,
 ) -> u64
-    ensures { λ r. ⌜ r ≡ codedOf (pairSelectTold differ (handle capacity length) (now (words .entry)) (handle capacity2 length2) (now (words2 .entry)) k) ⌝ }
+    ensures { λ r. ⌜ r ≡ codedOf (pairSelectTold differ (handle capacity length total) (now (words .entry))
+        (handle capacity2 length2 total2) (now (words2 .entry)) k) ⌝ }
 {
     coded(pair_select(
         Rule::Differ,
-        Handle::new(capacity as usize, length as usize),
+        Handle::new(capacity as usize, length as usize, total as usize),
         words,
-        Handle::new(capacity2 as usize, length2 as usize),
+        Handle::new(capacity2 as usize, length2 as usize, total2 as usize),
         words2,
         k as usize,
     ))
@@ -163,19 +190,22 @@ pub extern "C" fn strip_pair_find(
 pub extern "C" fn strip_pair_span(
     capacity: u64,
     length: u64,
+    total: u64,
     words: &[u64],
     capacity2: u64,
     length2: u64,
+    total2: u64,
     words2: &[u64],
     a: u64,
     b: u64,
 ) -> i64
-    ensures { λ r. ⌜ r ≡ codedSpan (pairSpanTold (handle capacity length) (now (words .entry)) (handle capacity2 length2) (now (words2 .entry)) a b) ⌝ }
+    ensures { λ r. ⌜ r ≡ codedSpan (pairSpanTold (handle capacity length total) (now (words .entry))
+        (handle capacity2 length2 total2) (now (words2 .entry)) a b) ⌝ }
 {
     coded_span(pair_span(
-        Handle::new(capacity as usize, length as usize),
+        Handle::new(capacity as usize, length as usize, total as usize),
         words,
-        Handle::new(capacity2 as usize, length2 as usize),
+        Handle::new(capacity2 as usize, length2 as usize, total2 as usize),
         words2,
         a as usize,
         b as usize,

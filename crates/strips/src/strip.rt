@@ -15,11 +15,11 @@ use words::successor;
 
 // look(i): the bit at position i.
 #[no_mangle]
-pub extern "C" fn strip_get(capacity: u64, length: u64, words: &[u64], i: u64) -> u64
-    ensures { λ r. ⌜ r ≡ codedOf (getTold (handle capacity length) (now (words .entry)) i) ⌝ }
+pub extern "C" fn strip_get(capacity: u64, length: u64, total: u64, words: &[u64], i: u64) -> u64
+    ensures { λ r. ⌜ r ≡ codedOf (getTold (handle capacity length total) (now (words .entry)) i) ⌝ }
 {
     coded(get(
-        Handle::new(capacity as usize, length as usize),
+        Handle::new(capacity as usize, length as usize, total as usize),
         words,
         i as usize,
     ))
@@ -27,11 +27,18 @@ pub extern "C" fn strip_get(capacity: u64, length: u64, words: &[u64], i: u64) -
 
 // next(v, i): the smallest position at or past i that holds v.
 #[no_mangle]
-pub extern "C" fn strip_successor(capacity: u64, length: u64, words: &[u64], v: u64, i: u64) -> u64
-    ensures { λ r. ⌜ r ≡ codedOf (successorTold (handle capacity length) (now (words .entry)) v i) ⌝ }
+pub extern "C" fn strip_successor(
+    capacity: u64,
+    length: u64,
+    total: u64,
+    words: &[u64],
+    v: u64,
+    i: u64,
+) -> u64
+    ensures { λ r. ⌜ r ≡ codedOf (successorTold (handle capacity length total) (now (words .entry)) v i) ⌝ }
 {
     coded(successor(
-        Handle::new(capacity as usize, length as usize),
+        Handle::new(capacity as usize, length as usize, total as usize),
         words,
         v,
         i as usize,
@@ -43,14 +50,15 @@ pub extern "C" fn strip_successor(capacity: u64, length: u64, words: &[u64], v: 
 pub extern "C" fn strip_predecessor(
     capacity: u64,
     length: u64,
+    total: u64,
     words: &[u64],
     v: u64,
     i: u64,
 ) -> u64
-    ensures { λ r. ⌜ r ≡ codedOf (predecessorTold (handle capacity length) (now (words .entry)) v i) ⌝ }
+    ensures { λ r. ⌜ r ≡ codedOf (predecessorTold (handle capacity length total) (now (words .entry)) v i) ⌝ }
 {
     coded(predecessor(
-        Handle::new(capacity as usize, length as usize),
+        Handle::new(capacity as usize, length as usize, total as usize),
         words,
         v,
         i as usize,
@@ -59,11 +67,18 @@ pub extern "C" fn strip_predecessor(
 
 // burst(w, m): the start of a window of w strokes that holds at least m misfires.
 #[no_mangle]
-pub extern "C" fn strip_burst(capacity: u64, length: u64, words: &[u64], w: u64, m: u64) -> u64
-    ensures { λ r. ⌜ CodedAs (Burst (handle capacity length) (now (words .entry)) w m) r ⌝ }
+pub extern "C" fn strip_burst(
+    capacity: u64,
+    length: u64,
+    total: u64,
+    words: &[u64],
+    w: u64,
+    m: u64,
+) -> u64
+    ensures { λ r. ⌜ CodedAs (Burst (handle capacity length total) (now (words .entry)) w m) r ⌝ }
 {
     coded(burst(
-        Handle::new(capacity as usize, length as usize),
+        Handle::new(capacity as usize, length as usize, total as usize),
         words,
         w as usize,
         m as usize,

@@ -1,5 +1,5 @@
-// The waiting calls: the strip's capacity, length and words, then the waiting strip's. They write to the front of `out`: refusal or 0, then the values, 0 where
-// refused. With an `out` shorter than these numbers, three of a count and four of a find, nothing runs.
+// The waiting calls: the strip's capacity, length, total and words, then the waiting strip's. They write to the front of `out`: refusal or 0, then the values,
+// 0 where refused. With an `out` shorter than these numbers, three of a count and four of a find, nothing runs.
 ghost use mathlib.Core.Path.{_≡_};
 ghost use mathlib.Core.List.{[], _∷_};
 ghost use Prim.Native.Nat.{_≤_};
@@ -63,23 +63,26 @@ fn write_select(out: &mut [u64], m: SelectAnswer)
 pub extern "C" fn strip_waiting_count(
     capacity: u64,
     length: u64,
+    total: u64,
     words: &[u64],
     capacity2: u64,
     length2: u64,
+    total2: u64,
     words2: &[u64],
     i: u64,
     out: &mut [u64],
 )
-    ensures { λ _. ⌜ Written 3 rankNumbers (WaitingRank (handle capacity length) (now (words .entry)) (handle capacity2 length2) (now (words2 .entry)) i)
+    ensures { λ _. ⌜ Written 3 rankNumbers (WaitingRank (handle capacity length total) (now (words .entry))
+        (handle capacity2 length2 total2) (now (words2 .entry)) i)
         (now (out .entry)) (now (out .exit)) ⌝ }
 {
     if out.len() < 3 {
         return;
     }
     let m = waiting_rank(
-        Handle::new(capacity as usize, length as usize),
+        Handle::new(capacity as usize, length as usize, total as usize),
         words,
-        Handle::new(capacity2 as usize, length2 as usize),
+        Handle::new(capacity2 as usize, length2 as usize, total2 as usize),
         words2,
         i as usize,
     );
@@ -91,23 +94,26 @@ pub extern "C" fn strip_waiting_count(
 pub extern "C" fn strip_waiting_find(
     capacity: u64,
     length: u64,
+    total: u64,
     words: &[u64],
     capacity2: u64,
     length2: u64,
+    total2: u64,
     words2: &[u64],
     k: u64,
     out: &mut [u64],
 )
-    ensures { λ _. ⌜ Written 4 selectNumbers (WaitingSelect (handle capacity length) (now (words .entry)) (handle capacity2 length2) (now (words2 .entry)) k)
+    ensures { λ _. ⌜ Written 4 selectNumbers (WaitingSelect (handle capacity length total) (now (words .entry))
+        (handle capacity2 length2 total2) (now (words2 .entry)) k)
         (now (out .entry)) (now (out .exit)) ⌝ }
 {
     if out.len() < 4 {
         return;
     }
     let m = waiting_select(
-        Handle::new(capacity as usize, length as usize),
+        Handle::new(capacity as usize, length as usize, total as usize),
         words,
-        Handle::new(capacity2 as usize, length2 as usize),
+        Handle::new(capacity2 as usize, length2 as usize, total2 as usize),
         words2,
         k as usize,
     );

@@ -6,7 +6,8 @@ ghost use Rattle.machine.specs.Runner.{ended, Executed};
 ghost use Rattle.testing.specs.Steps.{lentAll, StepReported};
 use machine::execute;
 use machine::step;
-use strips::write_five;
+use strips::OUT_NUMBERS;
+use strips::write_out;
 use words::Handle;
 
 // The opening lay and clear, clear's refusals first where `order` is not 0, then every call of a script.
@@ -34,8 +35,8 @@ pub extern "C" fn strip_execute(
     )
 }
 
-// One call of a script, on the handle of this capacity and length and any buffers. Writes five numbers to the front of `out`: refusal or 0, first value,
-// second value, capacity and length of the handle now in use. With a shorter `out` nothing runs.
+// One call of a script, on the handle of this capacity, length and total and any buffers. Writes six numbers to the front of `out`: refusal or 0, first value,
+// second value, capacity, length and total of the handle now in use. With a shorter `out` nothing runs.
 #[no_mangle]
 pub extern "C" fn strip_step(
     op: u64,
@@ -44,17 +45,18 @@ pub extern "C" fn strip_step(
     z: u64,
     capacity: u64,
     length: u64,
+    total: u64,
     words: &mut [u64],
     counters: &mut [u32],
     image: &mut [u8],
     out: &mut [u64],
 )
     ensures { λ _. ⌜ StepReported (Acted (called op x y z)
-        (unitState (stripRecord (handle capacity length) (now (words .entry)) (now (counters .entry))) (now (image .entry))))
+        (unitState (stripRecord (handle capacity length total) (now (words .entry)) (now (counters .entry))) (now (image .entry))))
         (lentAll (now (words .entry)) (now (counters .entry)) (now (image .entry)) (now (out .entry)))
         (lentAll (now (words .exit)) (now (counters .exit)) (now (image .exit)) (now (out .exit))) ⌝ }
 {
-    if out.len() < 5 {
+    if out.len() < OUT_NUMBERS {
         return;
     }
     let t = step(
@@ -62,10 +64,10 @@ pub extern "C" fn strip_step(
         x,
         y,
         z,
-        Handle::new(capacity as usize, length as usize),
+        Handle::new(capacity as usize, length as usize, total as usize),
         words,
         counters,
         image,
     );
-    write_five(out, t.refusal, t.first, t.second, t.handle);
+    write_out(out, t.refusal, t.first, t.second, t.handle);
 }

@@ -103,17 +103,22 @@ right-number t refuse Right n h one late j = go (judge t) refl
     go none e = late (j .late e)
     go (some m) e = omega (arith, one n m (j .early m e), judged-number t m h e)
 
--- the line of a k not below the length refuses what the search does not find: a find whose table ends with it answers for every k as one without
+-- the line of a k not below n refuses what the search does not find: a find whose table ends with it answers for every k as one without
+pub line-found : (t : List Line) (s : List ℕ) (v k n : ℕ) → (judge t ≡ none → n ≤ k → select s v k ≡ none)
+    → unless (judge (t ++ (absentLine n k ∷ []))) refused (found (select s v k)) ≡ unless (judge t) refused (found (select s v k))
+line-found t s v k n nothing =
+    ap (λ (o : Option ℕ). unless o refused (found (select s v k))) (judge-append t (absentLine n k ∷ [])) ∙ go (judge t) (leb n k) refl refl
+  where
+    go : (o : Option ℕ) (b : Bool) → judge t ≡ o → leb n k ≡ b
+        → unless (orElse o (judge ((b ⇒ 6) ∷ []))) refused (found (select s v k)) ≡ unless o refused (found (select s v k))
+    go (some m) b d e = refl
+    go none true d e = ap found (sym (nothing d (leb-true _ _ e)))
+    go none false d e = refl
+
+-- so that of a k not below the length
 pub absent-found : (t : List Line) (s : List ℕ) (v k : ℕ)
     → unless (judge (t ++ (absentLine (length s) k ∷ []))) refused (found (select s v k)) ≡ unless (judge t) refused (found (select s v k))
-absent-found t s v k =
-    ap (λ (o : Option ℕ). unless o refused (found (select s v k))) (judge-append t (absentLine (length s) k ∷ [])) ∙ go (judge t) (leb (length s) k) refl
-  where
-    go : (o : Option ℕ) (b : Bool) → leb (length s) k ≡ b
-        → unless (orElse o (judge ((b ⇒ 6) ∷ []))) refused (found (select s v k)) ≡ unless o refused (found (select s v k))
-    go (some n) b e = refl
-    go none true e = ap found (sym (select-beyond (cell s) (length s) v k (leb-true _ _ e)))
-    go none false e = refl
+absent-found t s v k = line-found t s v k (length s) (λ p l. select-beyond (cell s) (length s) v k l)
 
 -- no line applies
 abbrev pub Passes : List Line → Type 0
@@ -142,6 +147,7 @@ pub record Checked (h : Handle) (words : ℕ) (counted : Bool) : Type 0 where
   pub least : blockBits ≤ h .capacity
   pub most : h .capacity ≤ mostBits
   pub long : h .length ≤ h .capacity
+  pub held : h .total ≤ h .length
   pub count : words ≡ wordsOf (h .capacity)
   pub counters : counted ≡ true
 
@@ -149,13 +155,16 @@ pub checked : (h : Handle) (words : ℕ) (counted : Bool) → judge (stripLines 
 checked h words counted p =
     let w = passes (stripLines h words counted) p in
     let g : good h ≡ true = not-not (good h) (w .0) in
-    let a : allowed (h .capacity) ≡ true = and-first (allowed (h .capacity)) (leb (h .length) (h .capacity)) g in
+    let d = leb (h .length) (h .capacity) && leb (h .total) (h .length) in
+    let a : allowed (h .capacity) ≡ true = and-first (allowed (h .capacity)) d g in
+    let e : d ≡ true = and-second (allowed (h .capacity)) d g in
     let b = and-second (eqb (h .capacity % blockBits) 0) (leb blockBits (h .capacity) && leb (h .capacity) mostBits) a in
     record {
       step = eqb-true _ _ (and-first (eqb (h .capacity % blockBits) 0) (leb blockBits (h .capacity) && leb (h .capacity) mostBits) a);
       least = leb-true _ _ (and-first (leb blockBits (h .capacity)) (leb (h .capacity) mostBits) b);
       most = leb-true _ _ (and-second (leb blockBits (h .capacity)) (leb (h .capacity) mostBits) b);
-      long = leb-true _ _ (and-second (allowed (h .capacity)) (leb (h .length) (h .capacity)) g);
+      long = leb-true _ _ (and-first (leb (h .length) (h .capacity)) (leb (h .total) (h .length)) e);
+      held = leb-true _ _ (and-second (leb (h .length) (h .capacity)) (leb (h .total) (h .length)) e);
       count = eqb-true _ _ (not-not _ (w .1 .0));
       counters = not-not _ (w .1 .1 .0);
     }

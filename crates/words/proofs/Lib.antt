@@ -2,7 +2,7 @@ pub mod BoolLaws
 pub mod SameLaws
 pub mod Sums
 pub mod BitLaws
-mod Wrapping
+pub mod Wrapping
 pub mod DigitLaws
 mod LaneLaws
 mod PairLaws

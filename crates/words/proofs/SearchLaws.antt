@@ -11,8 +11,8 @@ use native.Mathlib.Decide.{ℕ-discrete}
 use lib.Dec.{eqb}
 use borrow.Author.Tests.{eqb-true, eq-eqb, ne-eqb, le-leb, lt-leb}
 use Rattle.words.specs.Bits.{sumTo, ones}
-use Rattle.words.specs.Strip.{orElse, least, greatest, holds, rankOf, selectOf}
-use Rattle.words.specs.Working.{ofValue, atMost}
+use Rattle.words.specs.Strip.{orElse, least, greatest, holds, rankOf, selectOf, ofValue}
+use Rattle.words.specs.Working.{atMost}
 use Rattle.words.specs.Words.{placeIn}
 use Rattle.words.proofs.BoolLaws.{bool-or, true-false, and-intro, and-first, and-second}
 use Rattle.words.proofs.Sums.{lt-or, sum-suc, sum-zero, sum-ext, ones-le, rank-one, part-ones}

@@ -1,17 +1,20 @@
 -- A list by its cells: the four definitions over it are those over the cells; and so of the strip that a list of words holds. Assumes nothing.
-use mathlib.Core.Path.{_≡_, ap, ap₂, _∙_}
+use mathlib.Core.Path.{_≡_, refl, sym, ap, ap₂, _∙_}
 use mathlib.Core.Bool.{_&&_}
-use mathlib.Core.List.{List}
+use mathlib.Core.List.{List, []}
+use mathlib.Core.Option.{none}
 use mathlib.Core.Logic.{_⊎_, inl, inr}
 use Prim.Native.Nat.{ℕ, min, _≤_, _<_}
+use native.Mathlib.Nat.{le-refl}
 use native.Mathlib.Omega.{arith}
 use lib.ListN.{length, List·getD-eq-default}
 use lib.Dec.{leb, eqb}
-use Rattle.words.specs.Bits.{bitAt, listOf}
-use Rattle.words.specs.Strip.{cell, stripOf, rankOf, selectOf, successorOf, predecessorOf, rank, select, successor, predecessor}
+use Rattle.words.specs.Bits.{bitAt, ones, listOf}
+use Rattle.words.specs.Strip.{cell, stripOf, rankOf, selectOf, successorOf, predecessorOf, rank, totalOf, ofValue, select, successor, predecessor}
+use Rattle.words.specs.Handles.{handle, handleOf}
 use Rattle.words.proofs.Sums.{lt-or, length-listOf, getD-listOf}
 use Rattle.words.proofs.WordLaws.{bitAt-le}
-use Rattle.words.proofs.SearchLaws.{least-ext, greatest-ext, rank-ext}
+use Rattle.words.proofs.SearchLaws.{least-ext, greatest-ext, rank-ext, rank-le, rank-ones, select-none, value-rank}
 
 -- ---- the list of the cells f 0, f 1, .., f (n - 1)
 module _ (f : ℕ → ℕ) (n : ℕ) where
@@ -43,6 +46,32 @@ module _ (f : ℕ → ℕ) (n : ℕ) where
       ap (predecessorOf (cell (listOf f n)) v) (short i h)
       ∙ greatest-ext (λ p. eqb (cell (listOf f n) p) v) (λ p. eqb (f p) v) i (λ p l. ap (λ (x : ℕ). eqb x v) (getD-listOf f n p (omega arith)))
 
+-- ---- the total of a list
+-- it is the rank of 1 at the length
+pub total-rank : (s : List ℕ) (n : ℕ) → length s ≡ n → totalOf s ≡ rankOf (cell s) 1 n
+total-rank s n e = ap (rankOf (cell s) 1) (omega arith)
+
+-- it is at most the length
+pub total-le : (s : List ℕ) → totalOf s ≤ length s
+total-le s = omega (arith, rank-le (cell s) 1 (min (length s) (length s)))
+
+-- with the length it gives the number of each value
+pub total-number : (s : List ℕ) (v : ℕ) → ((p : ℕ) → cell s p ≤ 1) → v ≤ 1 → ofValue v (length s) (totalOf s) ≡ rankOf (cell s) v (length s)
+total-number s v bits small =
+    ap (ofValue v (length s)) (total-rank s (length s) refl ∙ rank-ones (cell s) (length s) bits) ∙ value-rank (cell s) v (length s) bits small
+
+-- so that none is found from there on
+pub total-absent : (s : List ℕ) (v k : ℕ) → ((p : ℕ) → cell s p ≤ 1) → v ≤ 1 → ofValue v (length s) (totalOf s) ≤ k → select s v k ≡ none
+total-absent s v k bits small l = select-none (cell s) (length s) v k (omega (arith, total-number s v bits small))
+
+-- and 0 where there is no cell
+pub total-none : totalOf [] ≡ 0
+total-none = omega (arith, total-le [])
+
+-- the handle of the empty strip
+pub handle-none : (c : ℕ) → handle c 0 0 ≡ handleOf c []
+handle-none c = ap (handle c 0) (sym total-none)
+
 -- ---- the strip of a list of words
 pub strip-cell : (ws : List ℕ) (n p : ℕ) → p < n → cell (stripOf ws n) p ≡ bitAt ws p
 strip-cell ws n p l = getD-listOf (bitAt ws) n p l
@@ -60,6 +89,11 @@ strip-le ws n p = go (lt-or p n)
 
 pub strip-rank : (ws : List ℕ) (n v i : ℕ) → i ≤ n → rank (stripOf ws n) v i ≡ rankOf (bitAt ws) v i
 strip-rank ws n v i h = listed-rank (bitAt ws) n v i h
+
+-- its total is the ones of its words before its end
+pub strip-total : (ws : List ℕ) (n : ℕ) → totalOf (stripOf ws n) ≡ ones (bitAt ws) n
+strip-total ws n =
+    ap (rank (stripOf ws n) 1) (strip-length ws n) ∙ strip-rank ws n 1 n (le-refl n) ∙ rank-ones (bitAt ws) n (bitAt-le ws)
 
 pub strip-select : (ws : List ℕ) (n v k : ℕ) → select (stripOf ws n) v k ≡ selectOf (bitAt ws) n v k
 strip-select ws n v k = listed-select (bitAt ws) n v k

@@ -1,7 +1,10 @@
--- Products modulo a number, made of sums modulo it. Assumes nothing.
+-- Products modulo a number, made of sums modulo it; the number before another modulo it. Assumes nothing.
 use mathlib.Core.Path.{_≡_, sym, ap, _∙_}
-use Prim.Native.Nat.{ℕ, _+_, _*_, _/_, _%_}
-use native.Mathlib.Nat.{add-mod-mod, mul-add-mod-self-right, add-mul, mul-add, mul-one, mul-assoc, mul-comm, div-add-mod'}
+use mathlib.Core.Logic.{_⊎_, inl, inr}
+use Prim.Native.Nat.{ℕ, _+_, _*_, _/_, _%_, _≤_, _<_}
+use native.Mathlib.Omega.{arith}
+use native.Mathlib.Nat.{add-mod-mod, mul-add-mod-self-right, add-mul, mul-add, mul-one, mul-assoc, mul-comm, div-add-mod', mod-eq-of-lt, mod-self}
+use Rattle.words.proofs.Sums.{lt-or}
 
 -- a factor may be taken modulo m first
 pub mod-mul-mod : (a b m : ℕ) → (a % m * b) % m ≡ (a * b) % m
@@ -20,3 +23,14 @@ wrapping-step m x p y z q ey ez =
     ∙ ap (λ (t : ℕ). (t * (1 + q)) % m) ey
     ∙ mod-mul-mod (x * p) (1 + q) m
     ∙ ap (λ (t : ℕ). t % m) (mul-assoc x p (1 + q))
+
+-- where the number after x is y modulo m, and y is not 0, it is y
+pub wrapping-next : (m x y : ℕ) → x < m → (x + 1) % m ≡ y → 1 ≤ y → x + 1 ≡ y
+wrapping-next m x y small e some = go (lt-or (x + 1) m)
+  where
+    go : (x + 1 < m) ⊎ (m ≤ x + 1) → x + 1 ≡ y
+    go (inl l) = sym (mod-eq-of-lt l) ∙ e
+    go (inr l) =
+        let z : x + 1 ≡ m = omega arith in
+        let none : y ≡ 0 = sym e ∙ ap (λ (n : ℕ). n % m) z ∙ mod-self m in
+        absurd (omega arith)

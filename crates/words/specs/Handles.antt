@@ -5,6 +5,7 @@ use mathlib.Core.List.{List, [], _∷_}
 use lib.ListN.{length}
 use lib.Dec.{leb, eqb}
 use Rattle.words.specs.declared.handle.Handle.{Handle}
+use Rattle.words.specs.Strip.{totalOf}
 use Rattle.words.specs.Refusals.{Line, _⇒_}
 
 -- a block: the step of the capacity, and the smallest one
@@ -19,17 +20,17 @@ mostBits = 134217728
 abbrev pub allowed : ℕ → Bool
 allowed c = eqb (c % blockBits) 0 && (leb blockBits c && leb c mostBits)
 
--- a handle has capacity and length
-abbrev pub handle : ℕ → ℕ → Handle
-handle c n = record { capacity = c; length = n }
+-- a handle has capacity, length and total
+abbrev pub handle : ℕ → ℕ → ℕ → Handle
+handle c n t = record { capacity = c; length = n; total = t }
 
 -- the handle of a strip s of capacity c
 abbrev pub handleOf : ℕ → List ℕ → Handle
-handleOf c s = handle c (length s)
+handleOf c s = handle c (length s) (totalOf s)
 
--- a capacity that is allowed, and a length not above it
+-- a capacity that is allowed, a length not above it, and a total not above that
 abbrev pub good : Handle → Bool
-good h = allowed (h .capacity) && leb (h .length) (h .capacity)
+good h = allowed (h .capacity) && (leb (h .length) (h .capacity) && leb (h .total) (h .length))
 
 -- the number of words
 abbrev pub wordsOf : ℕ → ℕ
@@ -39,8 +40,8 @@ wordsOf c = c / 64
 abbrev pub untaken : Bool
 untaken = true
 
--- all strip calls first: 1 capacity not allowed or length above capacity; 2 words not exactly capacity / 64; 3 counters, where taken, not exactly as
--- many as the capacity needs, which `counted` tells
+-- all strip calls first: 1 capacity not allowed, length above capacity or total above length; 2 words not exactly capacity / 64; 3 counters, where taken,
+-- not exactly as many as the capacity needs, which `counted` tells
 abbrev pub stripLines : Handle → ℕ → Bool → List Line
 stripLines h words counted =
     (not (good h) ⇒ 1)

@@ -66,6 +66,14 @@ predecessorOf f v i = greatest (λ p. eqb (f p) v) i
 abbrev pub rank : List ℕ → ℕ → ℕ → ℕ
 rank s v i = rankOf (cell s) v (min i (length s))
 
+-- the total: the ones of a strip
+abbrev pub totalOf : List ℕ → ℕ
+totalOf s = rank s 1 (length s)
+
+-- the number of v, 0 or 1, among n bits of which x are ones
+abbrev pub ofValue : ℕ → ℕ → ℕ → ℕ
+ofValue v n x = cond (eqb v 1) x (n - x)
+
 abbrev pub select : List ℕ → ℕ → ℕ → Option ℕ
 select s v k = selectOf (cell s) (length s) v k
 

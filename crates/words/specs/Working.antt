@@ -3,16 +3,12 @@
 use mathlib.Core.Path.{_≡_}
 use mathlib.Core.Bool.{cond}
 use mathlib.Core.List.{List}
-use Prim.Native.Nat.{ℕ, suc, _-_, _≤_, _<_}
-use lib.Dec.{leb, eqb}
+use Prim.Native.Nat.{ℕ, suc, _≤_, _<_}
+use lib.Dec.{leb}
 use lib.ListN.{length, getD}
 use Rattle.words.specs.Bits.{bit, bitAt}
 use Rattle.words.specs.Strip.{holds}
 use Rattle.words.specs.Words.{byteOf, selectIn}
-
--- the number of v, 0 or 1, among n bits of which x are ones
-abbrev pub ofValue : ℕ → ℕ → ℕ → ℕ
-ofValue v n x = cond (eqb v 1) x (n - x)
 
 -- r is the word x with the bits from a to e - 1 made b
 pub record WordPut (x a e b r : ℕ) : Type 0 where

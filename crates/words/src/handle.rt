@@ -10,17 +10,22 @@ pub const BLOCK_BITS: usize = 512;
 // The largest capacity.
 pub const MOST_BITS: usize = 134217728;
 
-// A strip's capacity and length. The words lie with the caller.
+// A strip's capacity, length and total, its number of ones. The words lie with the caller.
 pub struct Handle {
     pub capacity: usize,
     pub length: usize,
+    pub total: usize,
 }
 
 impl Handle {
-    pub fn new(capacity: usize, length: usize) -> Self
-        ensures { λ h. ⌜ h ≡ handleWith capacity length ⌝ }
+    pub fn new(capacity: usize, length: usize, total: usize) -> Self
+        ensures { λ h. ⌜ h ≡ handleWith capacity length total ⌝ }
     {
-        Handle { capacity, length }
+        Handle {
+            capacity,
+            length,
+            total,
+        }
     }
 }
 
@@ -45,10 +50,14 @@ pub fn check_strip(h: Handle, words: usize, counted: bool) -> Verdict
     ensures { λ r. ⌜ verdictOf r ≡ judge (stripLines h words counted) ⌝ }
 {
     let capacity = h.capacity;
+    let length = h.length;
     if !allowed(capacity) {
         return Verdict::Refuse(Refusal::BadHandle);
     }
-    if capacity < h.length {
+    if capacity < length {
+        return Verdict::Refuse(Refusal::BadHandle);
+    }
+    if length < h.total {
         return Verdict::Refuse(Refusal::BadHandle);
     }
     if words != capacity / 64 {

@@ -5,7 +5,7 @@ ghost use Rattle.words.specs.Refusals.{numberOf, toldOf, coded as codedO
 
 // Why a call is refused, in the order of the numbers 1 to 18.
 pub enum Refusal {
-    // capacity not allowed, or length above capacity
+    // capacity not allowed, length above capacity, or total above length
     BadHandle,
     // words not exactly capacity / 64
     WordCount,

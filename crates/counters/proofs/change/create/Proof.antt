@@ -6,7 +6,8 @@ use borrow.Author.Needs.{needs}
 use lib.ListN.{length, replicate, length-replicate}
 use Rattle.words.specs.declared.handle.Handle.{Handle}
 use Rattle.words.specs.Refusals.{judge, verdictOf}
-use Rattle.words.specs.Handles.{handle}
+use Rattle.words.specs.Handles.{handleOf}
+use Rattle.words.proofs.StripLaws.{handle-none}
 use Rattle.words.proofs.CheckLaws.{judged-pass, unless-refused, unless-passed}
 use Rattle.counters.specs.Tree.{blocksOf, counterCount}
 use Rattle.counters.specs.Record.{packedWords, builtCounters}
@@ -35,20 +36,24 @@ zero-words-requires c κs = search needs
 zero-counters-requires : tie.Need-zero-counters-requires
 zero-counters-requires c κs = search needs
 
--- the checks of the handle with length 0
+-- the handle of the empty strip
+made : (c : tie.After-new) → c .new .result ≡ handleOf (c .before .before .before .args .capacity) []
+made c = c .new .ensures ∙ handle-none (c .before .before .before .args .capacity)
+
+-- its checks
 judged : (c : tie.After-check-record)
     → verdictOf (c .check-record .result)
-    ≡ judge (checks (handle (c .before .before .before .before .args .capacity) 0) (length (c .before .before .before .before .args .words .now))
+    ≡ judge (checks (handleOf (c .before .before .before .before .args .capacity) []) (length (c .before .before .before .before .args .words .now))
     (length (c .before .before .before .before .args .counters .now)))
 judged c =
     let a = c .before .before .before .before .args in
-    c .check-record .ensures ∙ ap (λ (h : Handle). judge (checks h (length (a .words .now)) (length (a .counters .now)))) (c .before .new .ensures)
+    c .check-record .ensures ∙ ap (λ (h : Handle). judge (checks h (length (a .words .now)) (length (a .counters .now)))) (made (c .before))
 
 returns : tie.Need-returns
 returns c =
     let k = c .before .before .before in
     let a = k .before .before .before .before .args in
-    unless-refused (checks (handle (a .capacity) 0) (length (a .words .now)) (length (a .counters .now))) (k .check-record .result) (c .before .r .given .0 .0)
+    unless-refused (checks (handleOf (a .capacity) []) (length (a .words .now)) (length (a .counters .now))) (k .check-record .result) (c .before .r .given .0 .0)
     (λ n. outcome (uncreated n) (a .words .now) (a .counters .now)) _ (judged k) (c .before .r .given .1)
 
 same-length : tie.Need-same-length
@@ -62,18 +67,18 @@ returns-2 c =
     let e = c .before .before .before .before .before .before .before .before in
     let k = e .before .before in
     let a = k .before .before .before .before .args in
-    let t = checks (handle (a .capacity) 0) (length (a .words .now)) (length (a .counters .now)) in
+    let t = checks (handleOf (a .capacity) []) (length (a .words .now)) (length (a .counters .now)) in
     let ws = c .before .before .before .before .before .before .zero-words in
     let cs = c .before .before .zero-counters in
-    let z = sizes (handle (a .capacity) 0) (a .words .now) (a .counters .now) (judged-pass t (k .check-record .result) (judged k) (e .enum-told .given .1)) in
+    let z = sizes (handleOf (a .capacity) []) (a .words .now) (a .counters .now) (judged-pass t (k .check-record .result) (judged k) (e .enum-told .given .1)) in
     let count : length (cs .last .0) ≡ counterCount (blocksOf (a .capacity)) =
     ap length (cs .ensures) ∙ length-replicate (length (a .counters .now)) 0 ∙ z .counters in
     let words-are : replicate (length (a .words .now)) 0 ≡ packedWords (a .capacity) [] =
     ap (λ (n : ℕ). replicate n 0) (z .words) ∙ sym (words-zero (a .capacity)) in
     let counters-are : replicate (length (a .counters .now)) 0 ≡ builtCounters (a .capacity) [] =
     ap (λ (n : ℕ). replicate n 0) (z .counters) ∙ sym (counters-zero (a .capacity)) in
-    ap₂ (λ (g : Handle) (n : ℕ). outcome (created g n) (ws .last .0) (cs .last .0)) (k .before .new .ensures) count
-    ∙ ap₂ (λ (x y : List ℕ). outcome (created (handle (a .capacity) 0) (counterCount (blocksOf (a .capacity)))) x y) (ws .ensures ∙ words-are)
+    ap₂ (λ (g : Handle) (n : ℕ). outcome (created g n) (ws .last .0) (cs .last .0)) (made (k .before)) count
+    ∙ ap₂ (λ (x y : List ℕ). outcome (created (handleOf (a .capacity) []) (counterCount (blocksOf (a .capacity)))) x y) (ws .ensures ∙ words-are)
     (cs .ensures ∙ counters-are)
     ∙ unless-passed t (k .check-record .result) (λ n. outcome (uncreated n) (a .words .now) (a .counters .now)) _ (judged k) (e .enum-told .given .1)
 

@@ -6,10 +6,11 @@ use native.Mathlib.Omega.{arith}
 use borrow.Author.Needs.{needs}
 use lib.ListN.{length}
 use borrow.Author.Tests.{ltb-false}
+use Rattle.words.specs.declared.handle.Handle.{Handle}
 use Rattle.words.specs.Bits.{bitAt, ones}
 use Rattle.words.specs.Calls.{valueLine, withinLine, spanLine}
 use Rattle.words.proofs.CheckLaws.{unless-refused, unless-passed}
-use Rattle.counters.specs.Promises.{stays}
+use Rattle.counters.specs.Promises.{done, outcome, stays}
 use Rattle.counters.specs.Calls.{fillTable}
 use Rattle.counters.proofs.PromiseLaws.{tree-over, PassedRecord, record-passed, fill-done}
 use Rattle.counters.proofs.change.fill.Statement.{statement}
@@ -60,6 +61,9 @@ build-counters-requires c κs =
     let wipe = c .before .before .before .before .put-positions2 .ensures in
     (omega (arith, put .long, wipe .long, z .words, z .step), tree-over z)
 
+new-requires : tie.Need-new-requires
+new-requires c κs = search needs
+
 returns : tie.Need-returns
 returns c =
     let a = c .before .before .before .before .before .before .args in
@@ -74,15 +78,17 @@ same-length-2 c = search needs
 
 returns-2 : tie.Need-returns-2
 returns-2 c =
-    let e = c .before .before .before .before .before .before .before .before .before .before .before .before .before in
+    let l = c .before in
+    let e = l .before .before .before .before .before .before .before .before .before .before .before .before .before in
     let a = e .before .before .before .before .before .args in
-    let put = c .before .before .before .before .before .before .before .before .before .before .before .put-positions in
-    let wipe = c .before .before .before .before .before .before .before .put-positions2 in
-    let built = c .before .before .build-counters in
+    let put = l .before .before .before .before .before .before .before .before .before .before .before .put-positions in
+    let wipe = l .before .before .before .before .before .before .before .put-positions2 in
+    let built = l .before .before .build-counters in
     let z = pass e .known in
     let whole : 512 * (a .h .capacity / 512) ≡ a .h .capacity = omega (arith, z .step) in
-    fill-done (a .h) (a .words .now) (put .last .0) (wipe .last .0) (a .counters .now) (built .last .1 .0) (a .a) (a .b) (a .v) (built .result) z
-    (put .ensures) (wipe .ensures) (λ k. c .before .before .before .before .before .slice-known4 .given k .fits) (built .kept .1 .0)
+    ap (λ (g : Handle). outcome (done g (built .result) 0) (wipe .last .0) (built .last .1 .0)) (c .new .ensures)
+    ∙ fill-done (a .h) (a .words .now) (put .last .0) (wipe .last .0) (a .counters .now) (built .last .1 .0) (a .a) (a .b) (a .v) (built .result) z
+    (put .ensures) (wipe .ensures) (λ k. l .before .before .before .before .before .slice-known4 .given k .fits) (built .kept .1 .0)
     (built .ensures .0 ∙ ap (ones (bitAt (wipe .last .0))) whole) (built .ensures .1)
     ∙ unless-passed (fillTable (a .h) (length (a .words .now)) (length (a .counters .now)) (a .a) (a .b) (a .v)) (e .before .before .check-fill .result)
     (stays (a .h) (a .words .now) (a .counters .now)) _ (e .before .before .check-fill .ensures) (e .enum-told .given .1)
@@ -97,6 +103,7 @@ fill-spec =
     put-positions-requires
     put-positions-requires-2
     build-counters-requires
+    new-requires
     returns
     same-length
     same-length-2

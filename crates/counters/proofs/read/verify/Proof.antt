@@ -1,5 +1,5 @@
 -- `counters::read::verify` meets its contract. Assumes nothing.
-use mathlib.Core.Path.{_≡_, ap, _∙_, subst}
+use mathlib.Core.Path.{_≡_, sym, ap, _∙_, subst}
 use mathlib.Core.Bool.{Bool}
 use mathlib.Core.Logic.{_⊎_, inl, inr}
 use mathlib.Core.Option.{none}
@@ -13,11 +13,13 @@ use Rattle.words.specs.Strip.{PastZero}
 use Rattle.words.specs.Refusals.{judge}
 use Rattle.words.proofs.Sums.{lt-or, sum-flat}
 use Rattle.words.proofs.WordLaws.{bitAt-le, bitAt-past}
+use Rattle.words.proofs.StripLaws.{strip-total}
 use Rattle.words.proofs.CheckLaws.{judged-pass}
 use Rattle.counters.specs.Tree.{blocksOf}
 use Rattle.counters.specs.Record.{AllFit}
 use Rattle.counters.specs.Working.{Decides}
 use Rattle.counters.specs.Calls.{checks}
+use Rattle.counters.proofs.AfreshLaws.{fits-total}
 use Rattle.counters.proofs.PromiseLaws.{tree-over, Sizes, sizes}
 use Rattle.counters.proofs.ReadLaws.{verify-refused, verify-unfit, verify-fits}
 use Rattle.counters.proofs.read.verify.Statement.{statement}
@@ -79,12 +81,6 @@ ones-held-requires c κs =
     let z = known (c .before .before .before .before) in
     tree-over z
 
-returns-3 : tie.Need-returns-3
-returns-3 c =
-    let a = c .before .before .before .before .before .before .args in
-    verify-refused (a .h) (a .words .now) (a .counters .now) (c .before .before .before .check-record .result) (c .before .r .given .0 .0)
-    (c .before .before .before .check-record .ensures) (c .before .r .given .1)
-
 -- no bit stands past the length
 clean : (c : tie.Else1) → PastZero (c .before .before .before .before .before .before .before .args .words .now) (c .before .before .before .before .before .before .before .args .h .length)
 clean c p l = go (lt-or p (c .before .before .before .before .before .before .before .args .h .capacity))
@@ -103,8 +99,11 @@ clean c p l = go (lt-or p (c .before .before .before .before .before .before .be
             (omega (arith, bitAt-le (c .before .before .before .before .before .before .before .args .words .now) p)))
     go (inr b) = let z = known (c .before .before) in bitAt-past (c .before .before .before .before .before .before .before .args .words .now) p (omega (arith, z .words, z .step))
 
-returns-4 : tie.Need-returns-4
-returns-4 c =
+-- what the tests before the total leave, and the ones that the counters hold
+held : (c : tie.After-ones-held)
+    → let a = c .before .before .before .before .before .before .before .before .before .before .args in
+    AllFit (bitAt (a .words .now)) (blocksOf (a .h .capacity)) (a .counters .now) × (c .ones-held .result ≡ ones (bitAt (a .words .now)) (a .h .length))
+held c =
     let s = c .before .before .before in
     let e = s .before .before in
     let a = e .before .before .before .before .before .args in
@@ -112,12 +111,34 @@ returns-4 c =
     let fit = c .before .before .counters-fit in
     let right : AllFit (bitAt (a .words .now)) (blocksOf (a .h .capacity)) (a .counters .now) =
     subst (λ (b : Bool). Decides b (AllFit (bitAt (a .words .now)) (blocksOf (a .h .capacity)) (a .counters .now))) (not-false (fit .result) (c .before .if2 .left)) (fit .ensures) in
-    let whole : 512 * blocksOf (a .h .capacity) ≡ a .h .capacity = omega (arith, z .step) in
-    verify-fits (a .h) (a .words .now) (a .counters .now) (c .ones-held .result) (passed e)
+    let whole : 512 * blocksOf (a .h .capacity) ≡ a .h .capacity = omega (arith, z .step) in (
+      right,
+      c .ones-held .ensures .1 (bitAt (a .words .now)) right (λ p l. clean s p (omega (arith, whole, z .long)))
+          ∙ ap (ones (bitAt (a .words .now))) whole ∙ sum-flat (bitAt (a .words .now)) (a .h .length) (a .h .capacity) (z .long) (clean s),
+    )
+
+returns-3 : tie.Need-returns-3
+returns-3 c =
+    let o = c .before .before in
+    let e = o .before .before .before .before .before in
+    let a = e .before .before .before .before .before .args in
+    verify-unfit (a .h) (a .words .now) (a .counters .now) (passed e) (λ f. c .if3 .taken (held o .1 ∙ sym (fits-total (a .h) (a .words .now) (a .counters .now) f)))
+
+returns-4 : tie.Need-returns-4
+returns-4 c =
+    let a = c .before .before .before .before .before .before .args in
+    verify-refused (a .h) (a .words .now) (a .counters .now) (c .before .before .before .check-record .result) (c .before .r .given .0 .0)
+    (c .before .before .before .check-record .ensures) (c .before .r .given .1)
+
+returns-5 : tie.Need-returns-5
+returns-5 c =
+    let o = c .before .before in
+    let s = o .before .before .before in
+    let e = s .before .before in
+    let a = e .before .before .before .before .before .args in
+    verify-fits (a .h) (a .words .now) (a .counters .now) (o .ones-held .result) (passed e)
     (λ k. e .before .before .before .before .shared-slice-known .given k .fits)
-    (record { clean = clean s; right = right })
-    (c .ones-held .ensures .1 (bitAt (a .words .now)) right (λ p l. clean s p (omega (arith, whole, z .long)))
-    ∙ ap (ones (bitAt (a .words .now))) whole ∙ sum-flat (bitAt (a .words .now)) (a .h .length) (a .h .capacity) (z .long) (clean s))
+    (record { clean = clean s; right = held o .0; held = sym (c .if3 .left) ∙ held o .1 ∙ sym (strip-total (a .words .now) (a .h .length)) }) (held o .1)
 
 pub verify-spec : {M : Type 1} → statement M
 verify-spec =
@@ -132,4 +153,5 @@ verify-spec =
     returns-2
     ones-held-requires
     returns-3
-    returns-4)
+    returns-4
+    returns-5)

@@ -2,7 +2,7 @@
 use mathlib.Core.Path.{ap, _∙_}
 use Prim.Native.Nat.{_*_}
 use borrow.Author.Needs.{needs}
-use Rattle.words.specs.Working.{ofValue}
+use Rattle.words.specs.Strip.{ofValue}
 use Rattle.image.proofs.reading.entry_values.Statement.{statement}
 use Rattle.image.proofs.reading.entry_values.Tie as tie
 

@@ -4,6 +4,7 @@ use Prim.Native.Nat.{ℕ}
 use lib.ListN.{set}
 use borrow.Author.Needs.{needs}
 use Rattle.words.specs.declared.handle.Handle.{Handle}
+use Rattle.words.proofs.StripLaws.{handle-none}
 use Rattle.machine.specs.Unit.{stripRecord, unitState}
 use Rattle.machine.specs.Runner.{ended, Executed}
 use Rattle.machine.proofs.ExecuteLaws.{passed, opened-by, executed-short, executed-refused, executed-ran}
@@ -48,8 +49,8 @@ new-requires c κs = search needs
 run-calls-requires : tie.Need-run-calls-requires
 run-calls-requires c κs = search needs
 
-put-answers-requires : tie.Need-put-answers-requires
-put-answers-requires c κs = search needs
+put-head-requires : tie.Need-put-head-requires
+put-head-requires c κs = search needs
 
 same-length : tie.Need-same-length
 same-length c = search needs
@@ -92,13 +93,13 @@ returns-3 c =
     let cleared = h .clear in
     let new = g .new in
     let d = f .run-calls in
-    let put = c .before .before .put-answers in
+    let put = c .before .before .put-head in
     let p = passed (a .capacity) (a .order) (a .words .now) (a .counters .now) (a .image .now) (k .result) (k .ensures) (e .enum-told .given .1) in
     executed-ran (a .script .now) (a .capacity) (a .order) (a .words .now) (a .counters .now) (a .image .now) (a .answers .now)
     (unitState (stripRecord (new .result) (laid .last .1 .0) (laid .last .1 .1 .0)) (cleared .last .0))
     (unitState (stripRecord (d .result) (d .last .1 .1 .0) (d .last .1 .1 .1 .0)) (d .last .1 .1 .1 .1 .0)) (d .last .1 .1 .1 .1 .1 .0) (put .last .0)
     (e .before .before .before .if1 .left) p
-    (ap (λ (h : Handle). unitState (stripRecord h (laid .last .1 .0) (laid .last .1 .1 .0)) (cleared .last .0)) (new .ensures)
+    (ap (λ (h : Handle). unitState (stripRecord h (laid .last .1 .0) (laid .last .1 .1 .0)) (cleared .last .0)) (new .ensures ∙ handle-none (a .capacity))
     ∙ opened-by (a .capacity) (a .order) (a .words .now) (a .counters .now) (a .image .now) p _ _ (laid .last .1 .0)
     (laid .last .1 .1 .0) (cleared .last .0) (laid .ensures) (cleared .ensures))
     (d .ensures) (put .ensures)
@@ -119,7 +120,7 @@ execute-spec =
     clear-requires
     new-requires
     run-calls-requires
-    put-answers-requires
+    put-head-requires
     same-length
     returns-2
     same-length-2

@@ -3,7 +3,7 @@ use native.Mathlib.Omega.{arith}
 use borrow.Author.Needs.{needs}
 use Rattle.counters.specs.Promises.{createdOf}
 use Rattle.counters.specs.Calls.{createOutcome}
-use Rattle.strips.specs.Exports.{createdFive}
+use Rattle.strips.specs.Exports.{createdOut}
 use Rattle.strips.proofs.ExportLaws.{reported-idle, reported-ran}
 use Rattle.strips.proofs.record.strip_create.Statement.{statement}
 use Rattle.strips.proofs.record.strip_create.Tie as tie
@@ -11,7 +11,7 @@ use Rattle.strips.proofs.record.strip_create.Tie as tie
 returns : tie.Need-returns
 returns c =
     let a = c .before .before .before .before .args in
-    reported-idle createdFive (a .words .now) (a .counters .now) (a .out .now) (createOutcome (a .capacity) (a .words .now) (a .counters .now)) (c .if1 .taken)
+    reported-idle createdOut (a .words .now) (a .counters .now) (a .out .now) (createOutcome (a .capacity) (a .words .now) (a .counters .now)) (c .if1 .taken)
 
 create-requires : tie.Need-create-requires
 create-requires c κs = search needs
@@ -33,7 +33,7 @@ returns-2 c =
     let a = c .before .before .before .before .before .before .before .before .before .before .before .before .before .before .before .args in
     let d = c .before .before .before .before .before .before .before .before .create in
     let w = c .before .before .write-created in
-    reported-ran createdFive (a .words .now) (a .counters .now) (a .out .now) (d .last .1 .0) (d .last .1 .1 .0) (w .last .0) (createdOf (d .result))
+    reported-ran createdOut (a .words .now) (a .counters .now) (a .out .now) (d .last .1 .0) (d .last .1 .1 .0) (w .last .0) (createdOf (d .result))
     (createOutcome (a .capacity) (a .words .now) (a .counters .now)) (omega (arith, c .before .before .before .before .before .before .before .before .before .before .before .if1 .left)) (d .ensures) (w .ensures)
 
 pub strip-create-spec : {M : Type 1} → statement M

@@ -6,7 +6,7 @@ use Rattle.words.specs.declared.handle.Handle.{Handle}
 use Rattle.words.specs.Handles.{handle}
 use Rattle.counters.specs.Promises.{changedOf}
 use Rattle.counters.specs.Calls.{fillOutcome}
-use Rattle.strips.specs.Exports.{changedFive}
+use Rattle.strips.specs.Exports.{changedOut}
 use Rattle.strips.proofs.ExportLaws.{reported-idle, reported-ran}
 use Rattle.strips.proofs.record.strip_fill.Statement.{statement}
 use Rattle.strips.proofs.record.strip_fill.Tie as tie
@@ -14,8 +14,8 @@ use Rattle.strips.proofs.record.strip_fill.Tie as tie
 returns : tie.Need-returns
 returns c =
     let a = c .before .before .before .before .args in
-    reported-idle changedFive (a .words .now) (a .counters .now) (a .out .now)
-    (fillOutcome (handle (a .capacity) (a .length)) (a .a) (a .b) (a .v) (a .words .now) (a .counters .now)) (c .if1 .taken)
+    reported-idle changedOut (a .words .now) (a .counters .now) (a .out .now)
+    (fillOutcome (handle (a .capacity) (a .length) (a .total)) (a .a) (a .b) (a .v) (a .words .now) (a .counters .now)) (c .if1 .taken)
 
 new-requires : tie.Need-new-requires
 new-requires c κs = search needs
@@ -40,8 +40,8 @@ returns-2 c =
     let a = c .before .before .before .before .before .before .before .before .before .before .before .before .before .before .before .before .args in
     let d = c .before .before .before .before .before .before .before .before .fill in
     let w = c .before .before .write-changed in
-    reported-ran changedFive (a .words .now) (a .counters .now) (a .out .now) (d .last .1 .0) (d .last .1 .1 .0) (w .last .0) (changedOf (d .result))
-    (fillOutcome (handle (a .capacity) (a .length)) (a .a) (a .b) (a .v) (a .words .now) (a .counters .now)) (omega (arith, c .before .before .before .before .before .before .before .before .before .before .before .before .if1 .left))
+    reported-ran changedOut (a .words .now) (a .counters .now) (a .out .now) (d .last .1 .0) (d .last .1 .1 .0) (w .last .0) (changedOf (d .result))
+    (fillOutcome (handle (a .capacity) (a .length) (a .total)) (a .a) (a .b) (a .v) (a .words .now) (a .counters .now)) (omega (arith, c .before .before .before .before .before .before .before .before .before .before .before .before .if1 .left))
     (d .ensures ∙ ap (λ (h : Handle). fillOutcome h (a .a) (a .b) (a .v) (a .words .now) (a .counters .now)) (c .before .before .before .before .before .before .before .before .before .before .before .new .ensures)) (w .ensures)
 
 pub strip-fill-spec : {M : Type 1} → statement M

@@ -12,7 +12,7 @@ use Rattle.strips.proofs.record.strip_push.Tie as tie
 returns : tie.Need-returns
 returns c =
     let a = c .before .before .before .before .args in
-    some-idle (Pushed (handle (a .capacity) (a .length)) (a .v) (a .words .now) (a .counters .now)) (a .words .now) (a .counters .now) (a .out .now) (c .if1 .taken)
+    some-idle (Pushed (handle (a .capacity) (a .length) (a .total)) (a .v) (a .words .now) (a .counters .now)) (a .words .now) (a .counters .now) (a .out .now) (c .if1 .taken)
 
 new-requires : tie.Need-new-requires
 new-requires c κs = search needs
@@ -38,7 +38,7 @@ returns-2 c =
     let n = c .before .before .before .before .before .before .before .before .before .before .before .new in
     let d = c .before .before .before .before .before .before .before .before .push in
     let w = c .before .before .write-changed in
-    some-ran (λ (h : Handle). Pushed h (a .v) (a .words .now) (a .counters .now)) (n .result) (handle (a .capacity) (a .length)) (a .words .now)
+    some-ran (λ (h : Handle). Pushed h (a .v) (a .words .now) (a .counters .now)) (n .result) (handle (a .capacity) (a .length) (a .total)) (a .words .now)
     (a .counters .now) (a .out .now) (d .last .1 .0) (d .last .1 .1 .0) (w .last .0) (changedOf (d .result)) (n .ensures)
     (omega (arith, c .before .before .before .before .before .before .before .before .before .before .before .before .if1 .left)) (d .ensures) (w .ensures)
 

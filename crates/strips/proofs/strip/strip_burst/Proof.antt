@@ -20,7 +20,7 @@ coded-requires c κs = search needs
 returns : tie.Need-returns
 returns c =
     let a = c .before .before .before .before .args in
-    coded-as (λ (h : Handle). Burst h (a .words .now) (a .w) (a .m)) (c .before .before .new .result) (handle (a .capacity) (a .length)) (toldOf (c .before .burst .result)) (c .coded .result)
+    coded-as (λ (h : Handle). Burst h (a .words .now) (a .w) (a .m)) (c .before .before .new .result) (handle (a .capacity) (a .length) (a .total)) (toldOf (c .before .burst .result)) (c .coded .result)
     (c .before .before .new .ensures) (c .before .burst .ensures) (c .coded .ensures)
 
 pub strip-burst-spec : {M : Type 1} → statement M

@@ -12,7 +12,7 @@ use Rattle.strips.proofs.wait.strip_waiting_find.Tie as tie
 returns : tie.Need-returns
 returns c =
     let a = c .before .before .before .before .args in
-    written-idle 4 selectNumbers (WaitingSelect (handle (a .capacity) (a .length)) (a .words .now) (handle (a .capacity2) (a .length2)) (a .words2 .now) (a .k)) (a .out .now) (c .if1 .taken)
+    written-idle 4 selectNumbers (WaitingSelect (handle (a .capacity) (a .length) (a .total)) (a .words .now) (handle (a .capacity2) (a .length2) (a .total2)) (a .words2 .now) (a .k)) (a .out .now) (c .if1 .taken)
 
 new-requires : tie.Need-new-requires
 new-requires c κs = search needs
@@ -34,8 +34,8 @@ returns-2 c =
     let a = c .before .before .before .before .before .before .before .before .before .before .before .args in
     let d = c .before .before .before .before .waiting-select in
     let w = c .before .before .write-select in
-    written-ran 4 selectNumbers (λ (h g : Handle). WaitingSelect h (a .words .now) g (a .words2 .now) (a .k)) (c .before .before .before .before .before .before .new .result) (handle (a .capacity) (a .length))
-    (c .before .before .before .before .before .new2 .result) (handle (a .capacity2) (a .length2)) (a .out .now) (w .last .0) (selectToldOf (d .result)) (c .before .before .before .before .before .before .new .ensures) (c .before .before .before .before .before .new2 .ensures)
+    written-ran 4 selectNumbers (λ (h g : Handle). WaitingSelect h (a .words .now) g (a .words2 .now) (a .k)) (c .before .before .before .before .before .before .new .result) (handle (a .capacity) (a .length) (a .total))
+    (c .before .before .before .before .before .new2 .result) (handle (a .capacity2) (a .length2) (a .total2)) (a .out .now) (w .last .0) (selectToldOf (d .result)) (c .before .before .before .before .before .before .new .ensures) (c .before .before .before .before .before .new2 .ensures)
     (omega (arith, c .before .before .before .before .before .before .before .if1 .left)) (d .ensures) (w .ensures)
 
 pub strip-waiting-find-spec : {M : Type 1} → statement M

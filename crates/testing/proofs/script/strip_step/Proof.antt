@@ -1,4 +1,4 @@
--- `testing::script::strip_step` meets its contract: it is that of `step`, then that of `write_five`. Assumes nothing.
+-- `testing::script::strip_step` meets its contract: it is that of `step`, then that of `write_out`. Assumes nothing.
 use native.Mathlib.Omega.{arith}
 use borrow.Author.Needs.{needs}
 use Rattle.words.specs.declared.handle.Handle.{Handle}
@@ -14,7 +14,7 @@ returns : tie.Need-returns
 returns c =
     let a = c .before .before .before .before .before .args in
     step-idle
-    (Acted (called (a .op) (a .x) (a .y) (a .z)) (unitState (stripRecord (handle (a .capacity) (a .length)) (a .words .now) (a .counters .now)) (a .image .now)))
+    (Acted (called (a .op) (a .x) (a .y) (a .z)) (unitState (stripRecord (handle (a .capacity) (a .length) (a .total)) (a .words .now) (a .counters .now)) (a .image .now)))
     (lentAll (a .words .now) (a .counters .now) (a .image .now) (a .out .now)) (c .if1 .taken)
 
 new-requires : tie.Need-new-requires
@@ -23,8 +23,8 @@ new-requires c κs = search needs
 step-requires : tie.Need-step-requires
 step-requires c κs = search needs
 
-write-five-requires : tie.Need-write-five-requires
-write-five-requires c κs = search needs
+write-out-requires : tie.Need-write-out-requires
+write-out-requires c κs = search needs
 
 same-length : tie.Need-same-length
 same-length c = search needs
@@ -45,9 +45,9 @@ returns-2 c =
     let a = e .before .before .before .before .before .before .args in
     let n = e .new in
     let d = b .step in
-    let w = c .before .before .write-five in
+    let w = c .before .before .write-out in
     step-ran (λ (h : Handle). Acted (called (a .op) (a .x) (a .y) (a .z)) (unitState (stripRecord h (a .words .now) (a .counters .now)) (a .image .now))) (n .result)
-    (handle (a .capacity) (a .length)) (lentAll (a .words .now) (a .counters .now) (a .image .now) (a .out .now)) (d .result)
+    (handle (a .capacity) (a .length) (a .total)) (lentAll (a .words .now) (a .counters .now) (a .image .now) (a .out .now)) (d .result)
     (d .last .1 .1 .1 .1 .1 .0) (d .last .1 .1 .1 .1 .1 .1 .0) (d .last .1 .1 .1 .1 .1 .1 .1 .0) (w .last .0) (n .ensures)
     (omega (arith, e .before .if1 .left)) (d .ensures) (w .ensures)
 
@@ -58,7 +58,7 @@ strip-step-spec =
     returns
     new-requires
     step-requires
-    write-five-requires
+    write-out-requires
     same-length
     same-length-2
     same-length-3
