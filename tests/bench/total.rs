@@ -243,6 +243,16 @@ fn time(queries: &[u64], mut call: impl FnMut(u64) -> u64) -> Vec<f64> {
     queries.chunks(PART).map(|part| figure(part)).collect()
 }
 
+/// Calls with so many bytes more on the stack.
+#[inline(never)]
+fn below<const BYTES: usize, T>(call: impl FnOnce() -> T) -> T {
+    let mut room = [0u8; BYTES];
+    black_box(&mut room);
+    let result = call();
+    black_box(&mut room);
+    result
+}
+
 /// A full strip; its ones, its last words, which an add changes, and how rare its ones are.
 struct Bench {
     strip: Strip,
@@ -323,9 +333,19 @@ impl Bench {
         }
     }
 
-    /// One round of a call: reads the whole record, and makes as many calls of each column as do not count. Then the
+    /// One round of a call, with the stack 0, 16, 32 or 48 bytes further down in its cache line than in others.
+    fn round(&mut self, call: Call, number: usize) -> [Vec<f64>; COLUMNS.len()] {
+        match number % 4 {
+            0 => below::<16, _>(|| self.round_here(call)),
+            1 => below::<32, _>(|| self.round_here(call)),
+            2 => below::<48, _>(|| self.round_here(call)),
+            _ => below::<64, _>(|| self.round_here(call)),
+        }
+    }
+
+    /// Reads the whole record, and makes as many calls of each column as do not count. Then the
     /// columns take turns, now in this order, now in the other: by parts, but for adds, before which a strip is cut.
-    fn round(&mut self, call: Call) -> [Vec<f64>; COLUMNS.len()] {
+    fn round_here(&mut self, call: Call) -> [Vec<f64>; COLUMNS.len()] {
         let (words, counters) = (self.strip.words.get(), self.strip.counters.get());
         black_box(words.iter().fold(0, |x, y| x ^ y));
         black_box(counters.iter().fold(0, |x, y| x ^ y));
@@ -393,9 +413,9 @@ impl Bench {
     /// Rounds of all calls and columns; prints the figures under their place.
     fn run(&mut self, at: &str, rounds: usize) {
         let mut figures = vec![vec![Vec::new(); COLUMNS.len()]; CALLS.len()];
-        for _ in 0..rounds {
+        for number in 0..rounds {
             for ((call, _), figures) in CALLS.iter().zip(&mut figures) {
-                for (figures, round) in figures.iter_mut().zip(self.round(*call)) {
+                for (figures, round) in figures.iter_mut().zip(self.round(*call, number)) {
                     figures.push(round);
                 }
             }

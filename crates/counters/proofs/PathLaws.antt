@@ -49,7 +49,7 @@ lanes-more {steps} {xs} {i} {ys} l h v sum =
       rest = λ k q. getD-set-other ys i k v 0 (λ w. omega arith) ∙ l .rest k (omega arith);
     }
 
--- ---- eight of sixteen steps
+-- ---- eight of the steps
 -- bound and number moved alike
 leb-shift : (k a c b x : ℕ) → b ≡ k + a → x ≡ k + c → leb b x ≡ leb a c
 leb-shift k a c b x e f = go (lt-or c a)
@@ -59,7 +59,7 @@ leb-shift k a c b x e f = go (lt-or c a)
     go (inr l) = le-leb b x (omega arith) ∙ sym (le-leb a c l)
 
 -- the steps as the code writes them
-pub steps-made : (d : ℕ) → Steps d (replicate 8 0 ++ replicate 8 d)
+pub steps-made : (d : ℕ) → Steps 8 d (replicate 8 0 ++ replicate 8 d)
 steps-made d i h = go i h (lt-or i 8)
   where
     go : (i : ℕ) → i < 16 → (i < 8) ⊎ (8 ≤ i) → getD (replicate 8 0 ++ replicate 8 d) i 0 ≡ cond (leb 8 i) d 0
@@ -72,12 +72,19 @@ steps-made d i h = go i h (lt-or i 8)
         ∙ getD-replicate 8 (i - 8) d 0 (omega arith)
         ∙ sym (ap (λ (b : Bool). cond b d 0) (le-leb 8 i l))
 
--- a part of eight numbers came back with the eight steps from number s on added: its numbers from g on are moved by d, where s + g is 8
-pub lanes-moved : (d : ℕ) (steps : List ℕ) → Steps d steps → (g s m : ℕ) → 8 ≡ s + g → m ≡ 8 → (xs ys : List ℕ) (a n : ℕ) → n ≡ 8
+-- from the second on, one zero fewer
+pub steps-later : (z d m : ℕ) (steps : List ℕ) → m ≡ z + 8 → Steps (z + 1) d steps → Steps z d (take m (drop 1 steps))
+steps-later z d m steps e are i h =
+    part-at steps 1 m 0 i (omega arith)
+    ∙ are (1 + i) (omega arith)
+    ∙ ap (λ (b : Bool). cond b d 0) (leb-shift 1 z i (z + 1) (1 + i) (omega arith) refl)
+
+-- a part of eight numbers came back with the eight steps from number s on added: its numbers from g on are moved by d, where s + g is the number of zeros
+pub lanes-moved : (z d : ℕ) (steps : List ℕ) → Steps z d steps → (g s m : ℕ) → z ≡ s + g → m ≡ 8 → (xs ys : List ℕ) (a n : ℕ) → n ≡ 8
     → ((i : ℕ) → getD xs i 0 < 2 ^ 32)
     → ((i : ℕ) → i < 8 → getD ys i 0 ≡ (getD (take n (drop a xs)) i 0 + getD (take m (drop s steps)) i 0) % 2 ^ 32)
     → (i : ℕ) → i < 8 → getD ys i 0 ≡ movedBy (leb g i) d (getD (take n (drop a xs)) i 0)
-lanes-moved d steps are g s m turn eight xs ys a n eight' small sums i h =
+lanes-moved z d steps are g s m turn eight xs ys a n eight' small sums i h =
     sums i h ∙ ap (λ (y : ℕ). (x + y) % 2 ^ 32) step ∙ moved-sum (leb g i) d x (omega (arith, part-at xs a n 0 i (omega arith), small (a + i)))
   where
     x : ℕ
@@ -87,9 +94,13 @@ lanes-moved d steps are g s m turn eight xs ys a n eight' small sums i h =
     step =
         part-at steps s m 0 i (omega arith)
         ∙ are (s + i) (omega arith)
-        ∙ ap (λ (b : Bool). cond b d 0) (leb-shift s g i 8 (s + i) turn refl)
+        ∙ ap (λ (b : Bool). cond b d 0) (leb-shift s g i z (s + i) turn refl)
 
 -- ---- one node
+-- how many counters count child c, by the places of the steps
+pub offsets-number : (c : ℕ) → c < 64 → 7 - c / 8 + (7 - c % 8) + 1 ≡ 15 - c % 8 - c / 8
+offsets-number c h = omega arith
+
 -- ends and number moved alike
 between-shift : (k a b c x : ℕ) → x ≡ k + c → (leb (k + a) x && ltb x (k + b)) ≡ (leb a c && ltb c b)
 between-shift k a b c x e = ap₂ _&&_ (leb-shift k a c (k + a) x refl e) (leb-shift k (suc c) b (suc x) (k + b) (omega arith) refl)
@@ -210,14 +221,14 @@ childOf-more t p = simp add-one (childOf-suc t p)
 
 -- one level more: the node on the path was lent, and its counters that count the stroke's slot have come back moved
 pub moving-more : {n p d : ℕ} {xs : List ℕ} {t : ℕ} {ys : List ℕ} {c r : Climb} {number : ℕ} → Moving n p d xs t ys c number
-    → t < height n → length xs ≡ counterCount n → Up c r → (m : ℕ) (ws : List ℕ) → m ≡ 72 → length ws ≡ length (take m (drop (r .at) ys))
-    → NodeMoved (r .slot) d (take m (drop (r .at) ys)) ws
-    → Moving n p d xs (t + 1) (splice (r .at) m ys ws) r (number + (15 - r .slot % 8 - r .slot / 8))
-moving-more {n} {p} {d} {xs} {t} {ys} {c} {r} {number} k lower size U m ws long kept each =
+    → t < height n → length xs ≡ counterCount n → Up c r → (m more : ℕ) (ws : List ℕ) → m ≡ 72 → more ≡ 15 - r .slot % 8 - r .slot / 8
+    → length ws ≡ length (take m (drop (r .at) ys)) → NodeMoved (r .slot) d (take m (drop (r .at) ys)) ws
+    → Moving n p d xs (t + 1) (splice (r .at) m ys ws) r (number + more)
+moving-more {n} {p} {d} {xs} {t} {ys} {c} {r} {number} k lower size U m more ws long share-is kept each =
     record {
       climb = above;
       node-is = node;
-      number-is = ap₂ (λ (x y : ℕ). x + (15 - y % 8 - y / 8)) (k .number-is) slot-is ∙ sym (sum-more (share p) t);
+      number-is = ap₂ _+_ (k .number-is) (share-is ∙ ap (λ (y : ℕ). 15 - y % 8 - y / 8) slot-is) ∙ sym (sum-more (share p) t);
       number-le = omega (arith, k .number-le);
       long = splice-length a m ys ws fit kept ∙ k .long;
       moved = λ s j i b c l h. go s j i b c l h (lt-or t s);

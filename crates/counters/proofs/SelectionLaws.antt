@@ -52,7 +52,7 @@ reach-first P k i n up h =
     subst (λ (c : ℕ). Reached (λ j. P (j + 1)) k i c) (sym h) (reached (λ j. P (j + 1)) k i (λ a b l. up (a + 1) (b + 1) (omega arith)))
 
 -- so there are at most k of v in the first n parts
-pub reach-low : (P : ℕ → ℕ) (k i n : ℕ) → Rising P → P 0 ≡ 0 → n ≡ ones (atMost (λ j. P (j + 1)) k) i → P n ≤ k
+reach-low : (P : ℕ → ℕ) (k i n : ℕ) → Rising P → P 0 ≡ 0 → n ≡ ones (atMost (λ j. P (j + 1)) k) i → P n ≤ k
 reach-low P k i n up z h = low (reach-first P k i n up h .low) (lt-or 0 n)
   where
     low : ((j : ℕ) → j < n → P (j + 1) ≤ k) → (0 < n) ⊎ (n ≤ 0) → P n ≤ k
@@ -74,12 +74,18 @@ gain B m = B m - B 0
 
 -- as many parts as end with at most k of v lie before the one with the k-th
 pub eighth : (B : ℕ → ℕ) (k n c left : ℕ) → Rising B → B 0 + k ≡ n → n < B 8 → c ≡ ones (atMost (λ i. gain B (i + 1)) k) 7
-    → (Rising (gain B) → gain B 0 ≡ 0 → gain B c + left ≡ k)
+    → (gain B 0 ≡ 0 → gain B c ≤ k → gain B c + left ≡ k)
     → FoundIn B n c left
 eighth B k n c left up e top h rest =
     let r = reach-first (gain B) k 7 c rise h in
-    record { under = omega (arith, rest rise (omega arith), up 0 c zero-le); over = high (lt-or c 7) (r .within) (r .above) }
+    record {
+      under = omega (arith, rest none (reach-low (gain B) k 7 c rise none h), up 0 c zero-le);
+      over = high (lt-or c 7) (r .within) (r .above);
+    }
   where
+    none : gain B 0 ≡ 0
+    none = omega arith
+
     rise : Rising (gain B)
     rise i j l = omega (arith, up i j l)
 

@@ -51,9 +51,9 @@ mostPair = 2 * (2 ^ 32 - 1)
 abbrev pub movedBy : Bool → ℕ → ℕ → ℕ
 movedBy b d x = cond b ((x + d) % 2 ^ 32) x
 
--- xs is eight zeros, then eight times d
-abbrev pub Steps : ℕ → List ℕ → Type 0
-Steps d xs = (i : ℕ) → i < 16 → getD xs i 0 ≡ cond (leb 8 i) d 0
+-- xs begins with z zeros, then eight times d
+abbrev pub Steps : (z d : ℕ) → List ℕ → Type 0
+Steps z d xs = (i : ℕ) → i < z + 8 → getD xs i 0 ≡ cond (leb z i) d 0
 
 -- counter i of a node counts the node's child c
 abbrev pub countsChild : ℕ → ℕ → Bool

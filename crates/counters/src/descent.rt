@@ -4,7 +4,7 @@ ghost use Prim.Native.Nat.{ℕ, _+_, _*_, _<_, _≤_};
 ghost use lib.ListN.{length};
 ghost use Rattle.counters.specs.Tree.{nodes, childBits};
 ghost use Rattle.counters.specs.Working.{mostBlocks, TreeOver};
-ghost use Rattle.counters.specs.Descent.{mostChildBits, ValueCount, PartWith, ChildWith, BlockWith, PositionOf};
+ghost use Rattle.counters.specs.Descent.{mostChildBits, ValueCount, PartWith, LeftAfter, ChildWith, BlockWith, PositionOf};
 use super::shape::CHILDREN;
 use super::shape::Level;
 use super::shape::NODE_COUNTERS;
@@ -14,7 +14,7 @@ use super::shape::wide;
 use words::BLOCK_BITS;
 use words::block_select;
 
-// Where a search stands: in which part, child or block, and how many v of it to pass.
+// Where a search stands: in which child or block, and how many v of it to pass.
 struct Spot {
     index: usize,
     left: u32,
@@ -63,11 +63,10 @@ fn value_count(v: u64, bits: u32, x: u32) -> u32
 }
 
 // Which of eight parts of `size` bits holds the k-th v, by the seven counters from place `from` on, which give the ones in the first 1, 2, .. 7 parts:
-// the number of those that give at most k of v, and k less the v in the parts before. The last of those counters is read a second time, by its place, so
-// that the loop carries no counter's value along; where there is none, the counter before `from` is read and its value not used.
-fn part_with(counters: &[u32], from: usize, size: u32, v: u64, k: u32) -> Spot
-    requires { ⌜ (1 ≤ from) × (from + 7 ≤ length (now counters)) × (size ≤ 8 * mostChildBits) × (v ≤ 1) ⌝ }
-    ensures { λ r. ⌜ PartWith v size (now (counters .entry)) from k (r .index) (r .left) ⌝ }
+// the number of those that give at most k of v.
+fn part_with(counters: &[u32], from: usize, size: u32, v: u64, k: u32) -> usize
+    requires { ⌜ (from + 7 ≤ length (now counters)) × (size ≤ 8 * mostChildBits) × (v ≤ 1) ⌝ }
+    ensures { λ r. ⌜ PartWith v size (now (counters .entry)) from k r ⌝ }
 {
     let mut bits: u32 = 0;
     let mut count: u32 = 0;
@@ -78,16 +77,20 @@ fn part_with(counters: &[u32], from: usize, size: u32, v: u64, k: u32) -> Spot
             count += 1;
         }
     }
-    let c = count as usize;
-    let last = value_count(v, size * count, counters[from + c - 1]);
-    Spot {
-        index: c,
-        left: if count == 0 {
-            k
-        } else {
-            std::num::wrapping_sub_u32(k, last)
-        },
+    count as usize
+}
+
+// k less the v in the first c of those parts. The last counter of them is read by its place, so that the loop above carries no counter's value along; where
+// there is none, the counter before `from` is read and its value not used, so that no branch waits for c.
+fn left_after(counters: &[u32], from: usize, size: u32, v: u64, k: u32, c: usize) -> u32
+    requires { ⌜ (1 ≤ from) × (from + 7 ≤ length (now counters)) × (size ≤ 8 * mostChildBits) × (v ≤ 1) × (c ≤ 7) ⌝ }
+    ensures { λ r. ⌜ LeftAfter v size (now (counters .entry)) from k c r ⌝ }
+{
+    let last = value_count(v, size * c as u32, counters[from + c - 1]);
+    if c == 0 {
+        return k;
     }
+    std::num::wrapping_sub_u32(k, last)
 }
 
 // The child with the k-th v of the node whose counters stand from place `at` on, by its summaries, then by the keys of a group.
@@ -96,11 +99,12 @@ fn child_with(counters: &[u32], at: usize, size: u32, v: u64, k: u32) -> Spot
     ensures { λ r. ⌜ ChildWith v size (now (counters .entry)) at k (r .index) (r .left) ⌝ }
 {
     let group = part_with(counters, at + 1, 8 * size, v, k);
-    let c = 8 * group.index;
-    let key = part_with(counters, at + 8 + c, size, v, group.left);
+    let left = left_after(counters, at + 1, 8 * size, v, k, group);
+    let c = 8 * group;
+    let key = part_with(counters, at + 8 + c, size, v, left);
     Spot {
-        index: c + key.index,
-        left: key.left,
+        index: c + key,
+        left: left_after(counters, at + 8 + c, size, v, left, key),
     }
 }
 

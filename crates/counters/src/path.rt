@@ -1,6 +1,6 @@
 // Moving the counters that count a stroke, each by one: d is 1, or 2^32 - 1 to count down.
 ghost use mathlib.Core.Path.{_≡_};
-ghost use Prim.Native.Nat.{ℕ, _+_, _*_, _%_, _^_, _<_};
+ghost use Prim.Native.Nat.{ℕ, _+_, _-_, _*_, _/_, _%_, _^_, _<_};
 ghost use lib.ListN.{length, getD};
 ghost use Rattle.counters.specs.Tree.{changeCount};
 ghost use Rattle.counters.specs.Working.{TreeOver, Steps, NodeMoved, PathMovedBy};
@@ -20,11 +20,12 @@ fn add_each(lanes: &mut [u32], steps: &[u32])
     }
 }
 
-// Adds d to the counters of a node that count its child c: the summaries past c's group, and the keys of its group from c on.
-// `steps` is eight zeros, then eight times d: the eight of them from number 8 - k on are 0 for the first k counters, d for the others.
-fn move_node(node: &mut [u32], steps: &[u32], c: usize)
+// Adds d to the counters of a node that count its child c, the summaries past c's group and the keys of its group from c on, and answers their number.
+// `steps` is eight zeros, then eight times d: the eight of them from number 8 - k on are 0 for the first k counters, d for the others. For the keys they
+// are taken from number 1 on, so that both places are 7 less an octal digit of c.
+fn move_node(node: &mut [u32], steps: &[u32], c: usize) -> usize
     requires { ⌜ (length (now node) ≡ 72) × (length (now steps) ≡ 16) × (c < 64) ⌝ }
-    ensures { λ _. ⌜ ((d : ℕ) → Steps d (now (steps .entry)) → NodeMoved c d (now (node .entry)) (now (node .exit))) ⌝ }
+    ensures { λ r. ⌜ (r ≡ 15 - c % 8 - c / 8) × ((d : ℕ) → Steps 8 d (now (steps .entry)) → NodeMoved c d (now (node .entry)) (now (node .exit))) ⌝ }
 {
     let g = c / 8;
     let summary_offset = 7 - g;
@@ -32,9 +33,11 @@ fn move_node(node: &mut [u32], steps: &[u32], c: usize)
     add_each(&mut node[0..8], &steps[summary_offset..summary_end]);
     let a = 8 + 8 * g;
     let e = a + 8;
-    let key_offset = 8 - c % 8;
+    let key_offset = 7 - c % 8;
     let key_end = key_offset + 8;
-    add_each(&mut node[a..e], &steps[key_offset..key_end]);
+    let later = &steps[1..16];
+    add_each(&mut node[a..e], &later[key_offset..key_end]);
+    summary_offset + key_offset + 1
 }
 
 // Adds d to the counters that count stroke p, level by level from the lowest, and answers their number. One node at a time is lent on.
@@ -50,9 +53,7 @@ pub fn move_path(counters: &mut [u32], blocks: usize, p: usize, d: u32) -> usize
         climb = up(climb);
         let a = climb.at;
         let e = a + NODE_COUNTERS;
-        let c = climb.slot;
-        move_node(&mut counters[a..e], &steps, c);
-        number += 15 - c % 8 - c / 8;
+        number += move_node(&mut counters[a..e], &steps, climb.slot);
     }
     number
 }

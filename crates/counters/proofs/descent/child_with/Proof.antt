@@ -18,6 +18,15 @@ mul-part-with c = search needs
 part-with-requires : tie.Need-part-with-requires
 part-with-requires c κs = search needs
 
+add-left-after : tie.Need-add-left-after
+add-left-after c = search needs
+
+mul-left-after : tie.Need-mul-left-after
+mul-left-after c = search needs
+
+left-after-requires : tie.Need-left-after-requires
+left-after-requires c κs = search needs
+
 mul-c : tie.Need-mul-c
 mul-c c = search needs
 
@@ -30,26 +39,39 @@ add-part-with-3 c = search needs
 part-with-requires-2 : tie.Need-part-with-requires-2
 part-with-requires-2 c κs = search needs
 
-add-t9 : tie.Need-add-t9
-add-t9 c = search needs
+add-t10 : tie.Need-add-t10
+add-t10 c = search needs
+
+add-left-after-2 : tie.Need-add-left-after-2
+add-left-after-2 c = search needs
+
+add-left-after-3 : tie.Need-add-left-after-3
+add-left-after-3 c = search needs
+
+left-after-requires-2 : tie.Need-left-after-requires-2
+left-after-requires-2 c κs = search needs
 
 returns : tie.Need-returns
 returns c =
     let s = c .before .before .before .before .before .args in
     let x = c .before .before .before .part-with in
     let y = c .before .part-with2 in
-    let g : ℕ = x .result .index in
-    let i : ℕ = y .result .index in (
+    let g : ℕ = x .result in
+    let i : ℕ = y .result in
+    let mid : ℕ = c .before .before .left-after .result in
+    let left : ℕ = c .left-after2 .result in (
       omega (arith, x .ensures .0, y .ensures .0),
       λ B n up counts e top.
-          let w = x .ensures .1 (gain (λ m. B (8 * m))) (group-valued B (s .v) (s .size) (s .counters .now) (s .at) up counts) in
-          let group : FoundIn (λ m. B (8 * m)) n g (x .result .left) =
-          eighth (λ m. B (8 * m)) (s .k) n g (x .result .left) (λ a b l. up (8 * a) (8 * b) (omega arith)) e top (w .0) (w .1) in
-          let z = y .ensures .1 (gain (λ m. B (8 * g + m))) (key-valued B (s .v) (s .size) (s .counters .now) (s .at) up counts g (x .ensures .0)) in
+          let ps = group-valued B (s .v) (s .size) (s .counters .now) (s .at) up counts in
+          let group : FoundIn (λ m. B (8 * m)) n g mid =
+          eighth (λ m. B (8 * m)) (s .k) n g mid (λ a b l. up (8 * a) (8 * b) (omega arith)) e top (x .ensures .1 (gain (λ m. B (8 * m))) ps)
+          (c .before .before .left-after .ensures (gain (λ m. B (8 * m))) ps) in
+          let qs = key-valued B (s .v) (s .size) (s .counters .now) (s .at) up counts g (x .ensures .0) in
           let next : 8 * (g + 1) ≡ 8 * g + 8 = omega arith in
-          let child : FoundIn (λ m. B (8 * g + m)) n i (y .result .left) =
-          eighth (λ m. B (8 * g + m)) (x .result .left) n i (y .result .left) (λ a b l. up (8 * g + a) (8 * g + b) (omega arith))
-          (omega (arith, group .under, ap B (add-zero (8 * g)))) (subst (λ (m : ℕ). n < B m) next (group .over)) (z .0) (z .1) in
+          let child : FoundIn (λ m. B (8 * g + m)) n i left =
+          eighth (λ m. B (8 * g + m)) mid n i left (λ a b l. up (8 * g + a) (8 * g + b) (omega arith))
+          (omega (arith, group .under, ap B (add-zero (8 * g)))) (subst (λ (m : ℕ). n < B m) next (group .over))
+          (y .ensures .1 (gain (λ m. B (8 * g + m))) qs) (c .left-after2 .ensures (gain (λ m. B (8 * g + m))) qs) in
           let past : 8 * g + (i + 1) ≡ 8 * g + i + 1 = omega arith in
           record { under = child .under; over = subst (λ (m : ℕ). n < B m) past (child .over) },
     )
@@ -61,9 +83,15 @@ child-with-spec =
     add-part-with
     mul-part-with
     part-with-requires
+    add-left-after
+    mul-left-after
+    left-after-requires
     mul-c
     add-part-with-2
     add-part-with-3
     part-with-requires-2
-    add-t9
+    add-t10
+    add-left-after-2
+    add-left-after-3
+    left-after-requires-2
     returns)

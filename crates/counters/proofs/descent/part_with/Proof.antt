@@ -1,16 +1,15 @@
 -- `counters::descent::part_with` meets its contract. The invariant: of the first i counters `count` hold at most k of v. Assumes nothing.
-use mathlib.Core.Path.{_≡_, sym, ap, subst}
+use mathlib.Core.Path.{_≡_, sym, subst}
 use mathlib.Core.Logic.{⊎-elim, inl, inr}
 use Prim.Native.Nat.{ℕ, _+_, _-_, _*_, _≤_}
-use native.Mathlib.Nat.{mul-zero, mul-le-mul-left}
+use native.Mathlib.Nat.{mul-zero}
 use native.Mathlib.Omega.{arith}
-use borrow.Author.Needs.{needs}
 use lib.ListN.{getD}
 use Rattle.words.specs.Bits.{ones}
 use Rattle.words.specs.Working.{atMost}
 use Rattle.words.proofs.Sums.{sum-zero}
 use Rattle.counters.specs.Descent.{mostChildBits, ValueCount, PartCounters}
-use Rattle.counters.proofs.SelectionLaws.{times-more, sub-exact, reach-more, reach-low, nth-valued}
+use Rattle.counters.proofs.SelectionLaws.{times-more, reach-more}
 use Rattle.counters.proofs.descent.part_with.Statement.{statement}
 use Rattle.counters.proofs.descent.part_with.Tie as tie
 
@@ -70,58 +69,15 @@ loop-again c =
           (l .inv .4 P h) (⊎-elim (λ w. inl (w .0 .taken, w .1)) (λ w. inr (w .0 .left, w .1)) (c .if1 .came)),
     )
 
-cast-c : tie.Need-cast-c Inv-loop μ-loop
-cast-c c = omega arith
+cast-result : tie.Need-cast-result Inv-loop μ-loop
+cast-result c = omega arith
 
-mul-value-count-2 : tie.Need-mul-value-count-2 Inv-loop μ-loop
-mul-value-count-2 c =
-    let l = c .before .loop in
-    omega (arith, l .inv, mul-le-mul-left (c .before .before .before .args .size) (l .inv .3))
-
-add-value-count-2 : tie.Need-add-value-count-2 Inv-loop μ-loop
-add-value-count-2 c = omega arith
-
-sub-value-count : tie.Need-sub-value-count Inv-loop μ-loop
-sub-value-count c = omega arith
-
-mul-value-count-3 : tie.Need-mul-value-count-3 Inv-loop μ-loop
-mul-value-count-3 c = omega arith
-
-shared-slice-read-value-count-2 : tie.Need-shared-slice-read-value-count-2 Inv-loop μ-loop
-shared-slice-read-value-count-2 c = omega arith
-
-value-count-requires-2 : tie.Need-value-count-requires-2 Inv-loop μ-loop
-value-count-requires-2 c κs = omega arith
-
-wrapping-sub-u32-requires : tie.Need-wrapping-sub-u32-requires Inv-loop μ-loop
-wrapping-sub-u32-requires c κs = search needs
-
--- of all seven counters
-all : (c : tie.After-loop Inv-loop μ-loop)
-    → let s = c .before .before .before .args in
-    (P : ℕ → ℕ) → PartCounters P (s .v) (s .size) (s .counters .now) (s .from)
-    → c .before .loop .count ≡ ones (atMost (λ j. P (j + 1)) (s .k)) 7
-all c P h =
+returns : tie.Need-returns Inv-loop μ-loop
+returns c =
     let s = c .before .before .before .args in
     let l = c .before .loop in
     let e : l .i ≡ 7 = omega arith in
-    subst (λ (i : ℕ). l .count ≡ ones (atMost (λ j. P (j + 1)) (s .k)) i) e (l .inv .4 P h)
-
-returns : tie.Need-returns Inv-loop μ-loop
-returns c = (omega arith, λ P h. (all (c .before .before .before) P h, λ up z. omega (arith, z, ap P (c .if2 .taken))))
-
-returns-2 : tie.Need-returns-2 Inv-loop μ-loop
-returns-2 c =
-    let s = c .before .before .before .before .before .before .before .args in
-    let l = c .before .before .before .before .before .loop in
-    let x = c .before .before .value-count2 in
-    let r = c .wrapping-sub-u32 in (
-      omega arith,
-      λ P h.
-          let n = all (c .before .before .before .before) P h in
-          let e : x .result ≡ P (l .count) = x .ensures (P (l .count)) (nth-valued P (s .v) (s .size) (s .from) (l .count) (s .counters .now) h (omega arith) (omega arith)) in
-          (n, λ up z. omega (arith, e, sub-exact (s .k) (x .result) (r .result) (omega arith) (r .ensures) (omega (arith, e, reach-low P (s .k) 7 (l .count) up z n)))),
-    )
+    (omega arith, λ P h. subst (λ (i : ℕ). l .count ≡ ones (atMost (λ j. P (j + 1)) (s .k)) i) e (l .inv .4 P h))
 
 pub part-with-spec : {M : Type 1} → statement M
 part-with-spec =
@@ -139,13 +95,5 @@ part-with-spec =
     add-i
     loop-less
     loop-again
-    cast-c
-    mul-value-count-2
-    add-value-count-2
-    sub-value-count
-    mul-value-count-3
-    shared-slice-read-value-count-2
-    value-count-requires-2
-    wrapping-sub-u32-requires
-    returns
-    returns-2)
+    cast-result
+    returns)

@@ -74,15 +74,14 @@ move-node-requires c κs =
     let a : ℕ = r .result .at in
     (part-length (l .counters) a (a + 72 - a) (omega (arith, room (c .before .before))) ∙ omega arith, refl, omega (arith, r .ensures .slot-is))
 
-sub-number : tie.Need-sub-number Inv-loop μ-loop
-sub-number c = omega (arith, c .before .before .before .before .before .up .ensures .slot-is)
-
-sub-number-2 : tie.Need-sub-number-2 Inv-loop μ-loop
-sub-number-2 c = omega (arith, c .before .before .before .before .before .up .ensures .slot-is)
-
 add-number : tie.Need-add-number Inv-loop μ-loop
 add-number c =
-    omega (arith, few (c .before .before .before .before .before), c .before .before .before .before .before .before .before .loop .inv .1 .number-le)
+    omega (
+      arith,
+      few (c .before .before .before .before .before),
+      c .before .before .before .before .before .before .before .loop .inv .1 .number-le,
+      c .before .before .move-node .ensures .0,
+    )
 
 add-t : tie.Need-add-t Inv-loop μ-loop
 add-t c = omega (arith, few (c .before .before .before .before .before))
@@ -98,8 +97,8 @@ loop-again c =
     let s = r .before .before .before .before .before .before in
     let a : ℕ = r .up .result .at in (
       omega arith,
-      moving-more (l .inv .1) (higher (r .before)) (s .pre .0 .size) (r .up .ensures) (a + 72 - a) (call .last .0) (omega arith) (call .kept .0)
-          (call .ensures (s .args .d) (steps-made (s .args .d))),
+      moving-more (l .inv .1) (higher (r .before)) (s .pre .0 .size) (r .up .ensures) (a + 72 - a) (call .result) (call .last .0) (omega arith)
+          (call .ensures .0) (call .kept .0) (call .ensures .1 (s .args .d) (steps-made (s .args .d))),
     )
 
 same-length : tie.Need-same-length Inv-loop μ-loop
@@ -125,8 +124,6 @@ move-path-spec =
     part-move-node-end
     slice-aggregate-move-node
     move-node-requires
-    sub-number
-    sub-number-2
     add-number
     add-t
     loop-less
