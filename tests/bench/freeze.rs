@@ -18,10 +18,12 @@ mod ffi;
 mod random;
 
 mod figures;
+mod stack;
 
 use ffi::{image_clear, image_freeze};
 use figures::{quartiles, total, word};
 use random::Random;
+use stack::spread;
 use std::hint::black_box;
 use std::time::Instant;
 
@@ -68,10 +70,6 @@ const COLUMNS: [(Column, &str); 8] = [
 ];
 
 const LABEL: u64 = 7;
-
-/// The rounds spread their stacks over so many bytes, since the time of a function that keeps an array on its stack, as
-/// `before` may, depends on where in a page the stack lies.
-const PAGE: usize = 4096;
 
 /// How many places of the stack are compared, and how many measurements are made at each, of which the quickest call counts.
 const PLACES: usize = 32;
@@ -192,28 +190,6 @@ impl Bench<'_> {
             figures[y].push(self.measure(columns[y].0));
         }
     }
-}
-
-/// Makes the calls, numbered from 0, from places of the stack that are spread over a page.
-fn spread(count: usize, mut call: impl FnMut(usize)) {
-    let local = black_box([0u8; 64]);
-    let top = black_box(&local).as_ptr() as usize;
-    for number in 0..count {
-        deeper(top, PAGE + PAGE * number / count, &mut || call(number));
-    }
-}
-
-/// Makes the call with at least so many more bytes of stack in use than at the address `top`.
-#[inline(never)]
-fn deeper(top: usize, bytes: usize, call: &mut dyn FnMut()) {
-    let local = black_box([0u8; 64]);
-    let here = black_box(&local).as_ptr() as usize;
-    if top - here < bytes {
-        deeper(top, bytes, call);
-    } else {
-        call();
-    }
-    black_box(&local);
 }
 
 /// Prints the quartiles of some figures.

@@ -17,11 +17,13 @@ mod random;
 mod buffer;
 #[allow(dead_code)]
 mod figures;
+mod stack;
 
 use buffer::Buffer;
 use ffi::*;
 use figures::{quartiles, rare, total};
 use random::Random;
+use stack::spread;
 use std::hint::black_box;
 use std::time::Instant;
 
@@ -243,16 +245,6 @@ fn time(queries: &[u64], mut call: impl FnMut(u64) -> u64) -> Vec<f64> {
     queries.chunks(PART).map(|part| figure(part)).collect()
 }
 
-/// Calls with so many bytes more on the stack.
-#[inline(never)]
-fn below<const BYTES: usize, T>(call: impl FnOnce() -> T) -> T {
-    let mut room = [0u8; BYTES];
-    black_box(&mut room);
-    let result = call();
-    black_box(&mut room);
-    result
-}
-
 /// A full strip; its ones, its last words, which an add changes, and how rare its ones are.
 struct Bench {
     strip: Strip,
@@ -333,19 +325,9 @@ impl Bench {
         }
     }
 
-    /// One round of a call, with the stack 0, 16, 32 or 48 bytes further down in its cache line than in others.
-    fn round(&mut self, call: Call, number: usize) -> [Vec<f64>; COLUMNS.len()] {
-        match number % 4 {
-            0 => below::<16, _>(|| self.round_here(call)),
-            1 => below::<32, _>(|| self.round_here(call)),
-            2 => below::<48, _>(|| self.round_here(call)),
-            _ => below::<64, _>(|| self.round_here(call)),
-        }
-    }
-
-    /// Reads the whole record, and makes as many calls of each column as do not count. Then the
+    /// One round of a call: reads the whole record, and makes as many calls of each column as do not count. Then the
     /// columns take turns, now in this order, now in the other: by parts, but for adds, before which a strip is cut.
-    fn round_here(&mut self, call: Call) -> [Vec<f64>; COLUMNS.len()] {
+    fn round(&mut self, call: Call) -> [Vec<f64>; COLUMNS.len()] {
         let (words, counters) = (self.strip.words.get(), self.strip.counters.get());
         black_box(words.iter().fold(0, |x, y| x ^ y));
         black_box(counters.iter().fold(0, |x, y| x ^ y));
@@ -410,16 +392,16 @@ impl Bench {
         self.check();
     }
 
-    /// Rounds of all calls and columns; prints the figures under their place.
+    /// Rounds of all calls and columns, each from another place of the stack; prints the figures under their place.
     fn run(&mut self, at: &str, rounds: usize) {
         let mut figures = vec![vec![Vec::new(); COLUMNS.len()]; CALLS.len()];
-        for number in 0..rounds {
+        spread(rounds, |_| {
             for ((call, _), figures) in CALLS.iter().zip(&mut figures) {
-                for (figures, round) in figures.iter_mut().zip(self.round(*call, number)) {
+                for (figures, round) in figures.iter_mut().zip(self.round(*call)) {
                     figures.push(round);
                 }
             }
-        }
+        });
         for ((_, name), figures) in CALLS.iter().zip(&figures) {
             for (column, figures) in COLUMNS.iter().zip(figures) {
                 print("time", at, name, column, figures.concat());

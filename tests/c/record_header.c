@@ -111,6 +111,15 @@ static void compare(void)
     SPAN_REFUSAL(strip_record_pair_span(&record, &o, 1, 0), STRIP_UNEQUAL);
     strip_record_push(&o, other[strlen(other) - 1] == '1');
 
+    /* each total is judged by its own record's length; a wrong one below it changes nothing */
+    uint64_t total = strip_record_total(&o);
+    o.handle.total = 18;
+    REFUSAL(strip_record_pair_both(&record, &o, 17), STRIP_BAD_HANDLE);
+    SPAN_REFUSAL(strip_record_pair_span(&o, &record, 0, 17), STRIP_BAD_HANDLE);
+    o.handle.total = 17;
+    VALUE(strip_record_pair_both(&record, &o, 17), 8);
+    o.handle.total = total;
+
     VALUE(strip_record_pair_both(&record, &o, 17), 8);
     VALUE(strip_record_pair_either(&record, &o, 17), 11);
     VALUE(strip_record_pair_only_first(&record, &o, 17), 2);
@@ -152,6 +161,15 @@ static void wait_for_pressure(void)
     COUNT_REFUSAL(strip_record_waiting_count(&record, &w, 18), STRIP_UNEQUAL);
     FIND_REFUSAL(strip_record_waiting_find(&record, &w, 99), STRIP_UNEQUAL);
     strip_record_push(&w, marks[strlen(marks) - 1] == '1');
+
+    /* each total is judged by its own record's length; a wrong one below it changes nothing */
+    uint64_t total = strip_record_total(&w);
+    w.handle.total = 18;
+    COUNT_REFUSAL(strip_record_waiting_count(&record, &w, 17), STRIP_BAD_HANDLE);
+    FIND_REFUSAL(strip_record_waiting_find(&w, &record, 0), STRIP_BAD_HANDLE);
+    w.handle.total = 17;
+    BETWEEN(strip_record_waiting_count(&record, &w, 17), 8, 12);
+    w.handle.total = total;
 
     BETWEEN(strip_record_waiting_count(&record, &w, 0), 0, 0);
     BETWEEN(strip_record_waiting_count(&record, &w, 4), 1, 3);

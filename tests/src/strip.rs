@@ -59,7 +59,7 @@ impl Strip {
         &self.bits[..self.handle.length as usize]
     }
 
-    /// A strip with faults: how the handle may be bad, one way of all, and the words too few, too many or none.
+    /// A strip with faults: its handle bad in the way that `handle` numbers, its words too few, too many or none.
     pub fn faulty(good: Handle, handle: Option<usize>, words: Option<usize>, bit: bool) -> Strip {
         let Handle { capacity: c, length: n, total: t } = good;
         let list = [

@@ -339,10 +339,10 @@ fn strips() {
     }
 }
 
-/// Every total: up to the length the answers are right under each, above it all is refused.
+/// Totals good and bad: up to the length the answers are right under each, above it all is refused.
 #[test]
-fn every_total() {
-    let mut cases = Cases::new("bursts", "every_total", 707);
+fn any_total() {
+    let mut cases = Cases::new("bursts", "any_total", 707);
     for given in lengths(1024).into_iter().map(Some).chain([None; 6]) {
         for share in SHARES {
             cases.run(|random| {

@@ -276,10 +276,10 @@ fn freeze_of_each_length() {
     }
 }
 
-/// Under every total up to the length the same bytes are written, with the ones of the words; above it none.
+/// Under any total up to the length the same bytes are written, with the ones of the words; above it none.
 #[test]
-fn freeze_under_every_total() {
-    let mut cases = Cases::new("image", "freeze_under_every_total", 89);
+fn freeze_under_any_total() {
+    let mut cases = Cases::new("image", "freeze_under_any_total", 89);
     for length in SMALL {
         for share in [0, 3, 500, 1000] {
             cases.run(|random| {

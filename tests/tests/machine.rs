@@ -457,7 +457,7 @@ fn tiny_list(random: &mut Random, tally: &mut Tally) {
     rounds(random, list, &[(first, calls)], tally);
 }
 
-/// LISTS lists of few calls, each one call of the runner.
+/// LISTS lists of few calls.
 #[test]
 #[ignore = "minutes; docs/ROBUSTNESS.md"]
 fn many_short_lists() {

@@ -360,10 +360,10 @@ fn strips() {
     }
 }
 
-/// Every total of either strip: up to the length the answers are the same under each, above it all is refused.
+/// Totals good and bad of either strip: up to the length the answers are the same under each, above it all is refused.
 #[test]
-fn every_total() {
-    let mut cases = Cases::new("pairs", "every_total", 414);
+fn any_total() {
+    let mut cases = Cases::new("pairs", "any_total", 414);
     for given in lengths(1024).into_iter().map(Some).chain([None; 4]) {
         for density in [(0, Beside::Ones(0)), (20, Beside::Ones(500)), (1000, Beside::Ones(1000))] {
             cases.run(|random| {

@@ -1,19 +1,21 @@
 //! Which words freeze, the search for a burst and the calls on two strips read, a strip's waiting strip being the second of
-//! two: of each strip those that hold what is asked for, and no other. The others are lent in closed pages. A call that reads
-//! one of them, or writes any, is not told as a failed test: a signal ends the process of this file, and `--test-threads=1`
-//! shows in which test.
+//! two: of each strip those that hold what is asked for, and no other; and that find's 6 on one strip reads nothing. The others
+//! are lent in closed pages. A call that reads one of them, or writes any, is not told as a failed test: a signal ends the
+//! process of this file, and `--test-threads=1` shows in which test.
 use std::fmt::Debug;
 use std::ops::Range;
 use strip_tests::borders::{beside, FAR, WIDE, WIDEST};
 use strip_tests::burst::Burst;
 use strip_tests::cases::Cases;
+use strip_tests::ffi::strip_select;
 use strip_tests::image::freeze_from;
 use strip_tests::layout;
 use strip_tests::model::{self, word_count};
 use strip_tests::pages::{Pages, PAGE};
 use strip_tests::pair::{counts, Comparison};
 use strip_tests::random::Random;
-use strip_tests::refusal::{Answer, Bounded, Bounds, Refusal, Signed};
+use strip_tests::record::counters_needed;
+use strip_tests::refusal::{answer, Answer, Bounded, Bounds, Refusal, Signed};
 use strip_tests::waiting::{Pointers, Waiting};
 use strip_tests::Handle;
 use Comparison::{Find, Span};
@@ -299,6 +301,24 @@ fn refused_read_nothing() {
     }
     for (a, b) in [(1, 0), (64, 63), (65, 64), (LENGTH, LENGTH - 1), (LENGTH, 0)] {
         expect(Span(a, b), [&good, &good], 0..0, Err(Refusal::Span));
+    }
+}
+
+/// A find's 6 on one strip comes from its handle: no word and no counter is read.
+#[test]
+fn find_of_none_on_a_strip_reads_nothing() {
+    let needed = counters_needed(CAPACITY).unwrap() as usize;
+    let pages = [WORDS, needed / 2].map(|count| Pages::new(&vec![u64::MAX; count], 0..0, 0));
+    let [(words, count), (counters, _)] = [pages[0].lend(), pages[1].lend()];
+    for total in [0, 1, LENGTH / 2, LENGTH - 1, LENGTH] {
+        for (v, number) in [(1, total), (0, LENGTH - total)] {
+            for k in [0, 1, LENGTH, CAPACITY].into_iter().chain(FAR).map(|more| number.saturating_add(more)) {
+                let counters = counters.cast::<u32>();
+                // SAFETY: as in `expect`; the counters too.
+                let told = unsafe { strip_select(CAPACITY, LENGTH, total, words, count, counters, needed, v, k) };
+                assert_eq!(answer(told), Err(NotFound), "{v}, {k}, total {total}");
+            }
+        }
     }
 }
 

@@ -582,9 +582,9 @@ fn fits(record: &Record, h: Handle) -> bool {
         && h.total == model::number_of(&bits, true)
 }
 
-/// Adds or turns on any record: 9 and nothing changed, where a turn would take the total out of its range, or where the record
-/// does not fit; else the total moves with the bit, and no bit changes but the stroke's and no counter that does not count it.
-fn near(record: &Record, h: Handle, change: Change, fit: bool) {
+/// Adds or turns on any record: 9 and nothing changed, exactly where a turn would take the total out of its range; else the
+/// total moves with the bit, and no bit changes but the stroke's and no counter that does not count it.
+fn near(record: &Record, h: Handle, change: Change) {
     let mut copy = Record::new(record.words(), record.counters());
     let report = copy.change(h, change);
     let bit = |p: u64| record.words()[p as usize / 64] / 2u64.pow(p as u32 % 64) % 2;
@@ -594,18 +594,13 @@ fn near(record: &Record, h: Handle, change: Change, fit: bool) {
         Flip(i) => (i, 1, 1, h.length, (h.total < h.length).then_some(h.total + 1)),
         _ => unreachable!(),
     };
-    if report == refused(Unfit, h) {
-        assert!(!fit, "{change:?} under {h:?}");
+    let Some(total) = total else {
+        assert_eq!(report, refused(Unfit, h), "{change:?} under {h:?}");
         assert!(copy.words() == record.words() && copy.counters() == record.counters());
         return;
-    }
+    };
     let (value, number) = report.told.unwrap();
-    assert_eq!(
-        (value, report.handle.length, Some(report.handle.total)),
-        (first, length, total),
-        "{change:?} under {h:?}"
-    );
-    assert_eq!(report.handle.capacity, h.capacity);
+    assert_eq!((value, report.handle), (first, Handle { length, total, ..h }), "{change:?} under {h:?}");
     assert!(number <= 45);
     let mut words = record.words().to_vec();
     let weight = 2u64.pow(p as u32 % 64);
@@ -657,10 +652,10 @@ fn any_record(random: &mut Random, record: &mut Record, h: Handle) {
     assert!(record.words() == words && record.counters() == counters, "a reading changed the record");
     for v in [0, 1] {
         if h.length < h.capacity {
-            near(record, h, Push(v), fit);
+            near(record, h, Push(v));
         }
         if h.length > 0 {
-            near(record, h, Flip(place(random, h.length)), fit);
+            near(record, h, Flip(place(random, h.length)));
         }
     }
     // the refusals of the arguments come first
@@ -725,10 +720,10 @@ fn damaged(random: &mut Random, kind: usize, capacity: u64, length: u64, share: 
     any_record(random, &mut record, h);
 }
 
-/// Every total, on a record that fits but for it and on damaged ones: what every call owes, and above the length 1.
+/// Totals good and bad, on a record that fits but for them and on damaged ones: what every call owes, and above the length 1.
 #[test]
-fn every_total() {
-    let mut cases = Cases::new("record", "every_total", 44);
+fn any_total() {
+    let mut cases = Cases::new("record", "any_total", 44);
     for given in lengths(1024).into_iter().map(Some).chain([None; 4]) {
         for (share, kind) in [0, 20, 500, 1000].into_iter().flat_map(|share| [11, 0, 1, 3, 7].map(|kind| (share, kind)))
         {
@@ -748,6 +743,23 @@ fn every_total() {
     }
 }
 
+/// Check gives 9 for a total that is not the ones of the words, at each number of levels.
+#[test]
+fn check_of_a_wrong_total() {
+    let mut cases = Cases::new("record", "check_of_a_wrong_total", 46);
+    for capacity in [ONE_LEVEL, TWO_LEVELS, THREE_LEVELS] {
+        cases.run(|random| {
+            let length = capacity - random.number_below(1000);
+            let Pair { strip, mut record } = Pair::new(capacity, random.bits(length, 500));
+            let (h, ones) = (strip.handle(), strip.ones());
+            for h in totals(h, ones).into_iter().map(|total| h.with(total)).filter(|h| h.total <= h.length) {
+                let wanted = if h.total == ones { Ok(ones) } else { Err(Unfit) };
+                assert_eq!(record.read(h, Verify), wanted, "under {h:?}");
+            }
+        });
+    }
+}
+
 /// Every total of a short strip: each find, each turn and each add.
 #[test]
 fn every_find_and_turn() {
@@ -763,7 +775,7 @@ fn every_find_and_turn() {
                         any_reading(&mut record, h, Select(v, k), fit);
                     }
                     for change in (0..length).map(Flip).chain([Push(0), Push(1)]) {
-                        near(&record, h, change, fit);
+                        near(&record, h, change);
                     }
                 }
             });

@@ -188,8 +188,7 @@ fn on_strip(after: &mut State, call: Call) -> Option<Values> {
 fn within(before: &State, call: Call, told: Values, after: &State) -> bool {
     let below = |n: u64| told.is_ok_and(|(first, second)| first < n && second == 0);
     match call.opcode() {
-        Push | Flip if told != Err(Unfit) => near(before, call, told, after),
-        Push | Flip => after == before,
+        Push | Flip => near(before, call, told, after),
         Rank => after == before && (told == Err(Unfit) || below(call.y + 1)),
         Select => after == before && (told == Err(Unfit) || below(before.handle.length)),
         RowRank => after == before && (told == Err(WrongRow) || below(call.z + 1)),

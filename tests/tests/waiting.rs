@@ -442,10 +442,10 @@ fn all_marked() {
     }
 }
 
-/// Every total of either strip: up to the length the answers are the same under each, above it all is refused.
+/// Totals good and bad of either strip: up to the length the answers are the same under each, above it all is refused.
 #[test]
-fn every_total() {
-    let mut cases = Cases::new("waiting", "every_total", 610);
+fn any_total() {
+    let mut cases = Cases::new("waiting", "any_total", 610);
     for given in lengths(1024).into_iter().map(Some).chain([None; 4]) {
         for density in [(0, Marks::Any(0)), (20, Marks::Any(500)), (1000, Marks::Any(1000))] {
             cases.run(|random| {

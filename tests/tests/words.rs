@@ -153,10 +153,10 @@ fn strips() {
     }
 }
 
-/// Every total: up to the length the answers are the same under each, above it all is refused.
+/// Totals good and bad: up to the length the answers are the same under each, above it all is refused.
 #[test]
-fn every_total() {
-    let mut cases = Cases::new("words", "every_total", 5);
+fn any_total() {
+    let mut cases = Cases::new("words", "any_total", 5);
     for given in lengths(1024).into_iter().map(Some).chain([None; 6]) {
         for share in [0, 20, 500, 1000] {
             cases.run(|random| {

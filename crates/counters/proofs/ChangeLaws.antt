@@ -60,13 +60,12 @@ flip-strip ws vs n i b h put =
         ∙ sym (ap (λ (q : ℕ). getD (set (stripOf ws n) i b) q 0) e ∙ getD-set-same (stripOf ws n) i b 0 (omega (arith, strip-length ws n)))
     each p l (no d) = put-other ws vs i b put p d ∙ sym (strip-cell ws n p l) ∙ sym (getD-set-other (stripOf ws n) i p b 0 d)
 
--- a range written, then all from n on
-pub fill-strip : (ws us vs : List ℕ) (n a b v e : ℕ) → RangePut ws a b v us → RangePut us n e 0 vs → stripOf vs n ≡ filled (stripOf ws n) a b v
+-- a range written
+pub fill-strip : (ws us : List ℕ) (n a b v : ℕ) → RangePut ws a b v us → stripOf us n ≡ filled (stripOf ws n) a b v
 unfolding filled
-fill-strip ws us vs n a b v e put wipe =
-    listOf-is (bitAt vs) n (listOf new (length (stripOf ws n))) (length-listOf new (length (stripOf ws n)) ∙ strip-length ws n)
-    (λ p l.
-    wipe .under p l ∙ inside p l (lt-or p a) (lt-or p b) ∙ sym (getD-listOf new (length (stripOf ws n)) p (omega (arith, strip-length ws n))))
+fill-strip ws us n a b v put =
+    listOf-is (bitAt us) n (listOf new (length (stripOf ws n))) (length-listOf new (length (stripOf ws n)) ∙ strip-length ws n)
+    (λ p l. inside p l (lt-or p a) (lt-or p b) ∙ sym (getD-listOf new (length (stripOf ws n)) p (omega (arith, strip-length ws n))))
   where
     new : ℕ → ℕ
     new p = cond (leb a p && ltb p b) v (cell (stripOf ws n) p)
@@ -76,10 +75,15 @@ fill-strip ws us vs n a b v e put wipe =
     inside p l (inr x) (inl y) = put .inside p x y ∙ sym (simp (le-leb a p x, lt-ltb p b y))
     inside p l (inr x) (inr y) = put .over p y ∙ sym (strip-cell ws n p l) ∙ sym (simp (le-leb a p x, le-ltb p b y))
 
-pub cut-strip : (ws vs : List ℕ) (n m e : ℕ) → m ≤ n → RangePut ws m e 0 vs → stripOf vs m ≡ take m (stripOf ws n)
-cut-strip ws vs n m e h wipe =
-    listOf-is (bitAt vs) m (take m (stripOf ws n)) (length-take-le m (stripOf ws n) (omega (arith, strip-length ws n)))
-    (λ p l. wipe .under p l ∙ sym (strip-cell ws n p (omega arith)) ∙ sym (getD-take m (stripOf ws n) p 0 l))
+-- fewer of the bits
+pub cut-strip : (ws : List ℕ) (n m : ℕ) → m ≤ n → stripOf ws m ≡ take m (stripOf ws n)
+cut-strip ws n m h =
+    listOf-is (bitAt ws) m (take m (stripOf ws n)) (length-take-le m (stripOf ws n) (omega (arith, strip-length ws n)))
+    (λ p l. sym (strip-cell ws n p (omega arith)) ∙ sym (getD-take m (stripOf ws n) p 0 l))
+
+-- a range past them written
+pub put-past-strip : (us vs : List ℕ) (n e b : ℕ) → RangePut us n e b vs → stripOf vs n ≡ stripOf us n
+put-past-strip us vs n e b put = listOf-is (bitAt vs) n (stripOf us n) (strip-length us n) (λ p l. put .under p l ∙ sym (strip-cell us n p l))
 
 -- ---- bits past the length after a change
 pub put-clean : (ws vs : List ℕ) (a e n b : ℕ) → RangePut ws a e b vs → e ≤ n → PastZero ws n → PastZero vs n

@@ -4,13 +4,13 @@ use mathlib.Core.Bool.{false, cond}
 use mathlib.Core.Logic.{_⊎_, inl, inr}
 use mathlib.Core.List.{List, [], _∷_, _++_}
 use mathlib.Core.Option.{Option, some, none}
-use Prim.Native.Nat.{ℕ, _+_, _-_, _/_, _%_, _^_, _≤_, _<_}
+use Prim.Native.Nat.{ℕ, _+_, _-_, _*_, _/_, _%_, _^_, _≤_, _<_}
 use native.Mathlib.Omega.{arith}
 use lib.Dec.{leb, eqb}
-use lib.ListN.{length, getD, set, take}
+use lib.ListN.{length, getD, set}
 use borrow.Author.Tests.{eqb-true, eq-eqb, ne-eqb, lt-leb, leb-false, ltb-false}
 use Rattle.words.specs.Bits.{bitAt, ones}
-use Rattle.words.specs.Strip.{cell, orElse, holds, rankOf, totalOf}
+use Rattle.words.specs.Strip.{cell, orElse, holds, rankOf, stripOf, totalOf}
 use Rattle.words.specs.Refusals.{numberOf, Line, _⇒_, judge, unless, verdictOf}
 use Rattle.words.specs.Handles.{handle}
 use Rattle.words.specs.Calls.{valueLine, belowLine}
@@ -28,7 +28,7 @@ use Rattle.counters.specs.Tree.{blocksOf, counterCount, changeCount}
 use Rattle.counters.specs.Record.{Fits, AllFit}
 use Rattle.counters.specs.Working.{TreeOver, PathMovedBy}
 use Rattle.counters.specs.Promises.{done, outcome, Promise, Near, near}
-use Rattle.counters.specs.Calls.{checks, heldStrip, rebuilt, pushTable, Pushed, flipTable, turnedBit, totalLine, moveTable, totalMoved, Flipped, filled}
+use Rattle.counters.specs.Calls.{checks, heldStrip, rebuilt, relaid, pushTable, Pushed, flipTable, turnedBit, totalLine, moveTable, turnedHandle, Flipped}
 use Rattle.counters.proofs.FlipLaws.{changeCount-le}
 use Rattle.counters.proofs.AfreshLaws.{fits-total}
 use Rattle.counters.proofs.ChangeLaws as C
@@ -162,21 +162,21 @@ module _ (h : Handle) (ws vs cs ds : List ℕ) (i number d : ℕ) (z : Sizes h w
           (bitAt-le ws) (high-zero h ws cs ws z refl) fit (subst (λ (x : ℕ). PathMovedBy (blocksOf (h .capacity)) i x cs ds) down path)
 
   pub flip-done : judge (moveTable h ws (length cs) i) ≡ none
-      → Flipped h i ws cs (outcome (done (totalMoved h (1 - bitAt ws i)) (1 - bitAt ws i) number) vs ds)
+      → Flipped h i ws cs (outcome (done (turnedHandle h (1 - bitAt ws i)) (1 - bitAt ws i) number) vs ds)
   flip-done pass =
       let e : 1 - bitAt ws i ≡ turnedBit h ws i = ap (λ (b : ℕ). 1 - b) (sym (strip-cell ws (h .length) i below)) in
-      let moved : Fits h ws cs → totalMoved h (1 - bitAt ws i) .total ≡ totalOf (set (heldStrip h ws) i (1 - bitAt ws i)) =
-      (λ f. subst (λ (x : ℕ). totalMoved h x .total ≡ totalOf (set (heldStrip h ws) i x)) (sym e)
+      let moved : Fits h ws cs → turnedHandle h (1 - bitAt ws i) .total ≡ totalOf (set (heldStrip h ws) i (1 - bitAt ws i)) =
+      (λ f. subst (λ (x : ℕ). turnedHandle h x .total ≡ totalOf (set (heldStrip h ws) i x)) (sym e)
       (ap (λ (t : ℕ). cond (eqb (turnedBit h ws i) 1) (t + 1) (t - 1)) (f .held)
       ∙ sym (C.set-total (heldStrip h ws) i (omega (arith, strip-length ws (h .length))) (strip-le ws (h .length) i)))) in
-      promise-passed (moveTable h ws (length cs) i) _ _ (Fits h ws cs) _ (outcome (done (totalMoved h (1 - bitAt ws i)) (1 - bitAt ws i) number) vs ds) pass
-      (λ f. C.rebuilt-is (h .capacity) (h .length) (totalMoved h (1 - bitAt ws i) .total) (1 - bitAt ws i) number
+      promise-passed (moveTable h ws (length cs) i) _ _ (Fits h ws cs) _ (outcome (done (turnedHandle h (1 - bitAt ws i)) (1 - bitAt ws i) number) vs ds) pass
+      (λ f. C.rebuilt-is (h .capacity) (h .length) (turnedHandle h (1 - bitAt ws i) .total) (1 - bitAt ws i) number
       (set (heldStrip h ws) i (1 - bitAt ws i)) vs ds
       (C.flip-strip ws vs (h .length) i (1 - bitAt ws i) below put) (put .long ∙ z .words) (path .long ∙ z .counters) small
       (C.put-clean ws vs i (i + 1) (h .length) (1 - bitAt ws i) put (omega arith) (f .clean)) (flip-fits (f .right))
       (moved f)
       ∙ ap₂ (λ (x y : ℕ). rebuilt (h .capacity) (set (heldStrip h ws) i x) x y) e count)
-      (subst (λ (x : ℕ). Near h (totalMoved h x) x i x ws cs (outcome (done (totalMoved h (1 - bitAt ws i)) (1 - bitAt ws i) number) vs ds)) e
+      (subst (λ (x : ℕ). Near h (turnedHandle h x) x i x ws cs (outcome (done (turnedHandle h (1 - bitAt ws i)) (1 - bitAt ws i) number) vs ds)) e
       (near number vs ds (omega (arith, count, changeCount-le (blocksOf (h .capacity)) i)) (C.put-bit ws vs i (1 - bitAt ws i) put)
       (C.path-moved (blocksOf (h .capacity)) i d cs ds path)))
 
@@ -234,27 +234,13 @@ module _ (h : Handle) (ws vs cs : List ℕ) (v : ℕ) (z : Sizes h ws cs) (room 
       (near number vs ds (omega (arith, count, changeCount-le (blocksOf (h .capacity)) (h .length))) (C.put-bit ws vs (h .length) v put)
       (C.path-moved (blocksOf (h .capacity)) (h .length) 1 cs ds path))
 
--- ---- run and cut: all counters laid from the words
-pub fill-done : (h : Handle) (ws us vs cs ds : List ℕ) (a b v x : ℕ) → Sizes h ws cs → RangePut ws a b v us → RangePut us (h .length) (h .capacity) 0 vs
-    → ((k : ℕ) → getD vs k 0 < 2 ^ 64) → length ds ≡ length cs → x ≡ ones (bitAt vs) (h .capacity) → AllFit (bitAt vs) (blocksOf (h .capacity)) ds
-    → outcome (done (handle (h .capacity) (h .length) x) x 0) vs ds
-    ≡ rebuilt (h .capacity) (filled (heldStrip h ws) a b v) (totalOf (filled (heldStrip h ws) a b v)) 0
-fill-done h ws us vs cs ds a b v x z put wipe small long count fit =
-    let s = C.fill-strip ws us vs (h .length) a b v (h .capacity) put wipe in
-    let clean = C.wipe-clean us vs (h .length) (h .capacity) wipe (omega (arith, put .long, z .words)) in
-    let held : x ≡ totalOf (filled (heldStrip h ws) a b v) =
-    count ∙ C.held-ones vs (h .length) (h .capacity) (filled (heldStrip h ws) a b v) s (z .long) clean in
-    C.rebuilt-is (h .capacity) (h .length) x x 0 (filled (heldStrip h ws) a b v) vs ds s (wipe .long ∙ put .long ∙ z .words) (long ∙ z .counters)
-    small clean fit held
-    ∙ ap (λ (y : ℕ). rebuilt (h .capacity) (filled (heldStrip h ws) a b v) y 0) held
-
-pub truncate-done : (h : Handle) (ws vs cs ds : List ℕ) (n x : ℕ) → Sizes h ws cs → n ≤ h .length → RangePut ws n (h .capacity) 0 vs
-    → ((k : ℕ) → getD vs k 0 < 2 ^ 64) → length ds ≡ length cs → x ≡ ones (bitAt vs) (h .capacity) → AllFit (bitAt vs) (blocksOf (h .capacity)) ds
-    → outcome (done (handle (h .capacity) n x) x 0) vs ds ≡ rebuilt (h .capacity) (take n (heldStrip h ws)) (totalOf (take n (heldStrip h ws))) 0
-truncate-done h ws vs cs ds n x z le wipe small long count fit =
-    let s = C.cut-strip ws vs (h .length) n (h .capacity) le wipe in
-    let clean = C.wipe-clean ws vs n (h .capacity) wipe (omega (arith, z .words)) in
-    let held : x ≡ totalOf (take n (heldStrip h ws)) =
-    count ∙ C.held-ones vs n (h .capacity) (take n (heldStrip h ws)) s (omega (arith, z .long)) clean in
-    C.rebuilt-is (h .capacity) n x x 0 (take n (heldStrip h ws)) vs ds s (wipe .long ∙ z .words) (long ∙ z .counters) small clean fit held
-    ∙ ap (λ (y : ℕ). rebuilt (h .capacity) (take n (heldStrip h ws)) y 0) held
+-- ---- run and cut: the bits from n on zeroed, then all counters laid from the words
+pub rebuild-done : (c n x : ℕ) (us vs ds : List ℕ) → n ≤ c → 64 * length us ≡ c → RangePut us n c 0 vs → ((k : ℕ) → getD vs k 0 < 2 ^ 64)
+    → length ds ≡ counterCount (blocksOf c) → x ≡ ones (bitAt vs) c → AllFit (bitAt vs) (blocksOf c) ds
+    → outcome (done (handle c n x) x 0) vs ds ≡ relaid c (stripOf us n)
+rebuild-done c n x us vs ds le size wipe small long count fit =
+    let s = C.put-past-strip us vs n c 0 wipe in
+    let clean = C.wipe-clean us vs n c wipe (omega arith) in
+    let held : x ≡ totalOf (stripOf us n) = count ∙ C.held-ones vs n c (stripOf us n) s le clean in
+    C.rebuilt-is c n x x 0 (stripOf us n) vs ds s (wipe .long ∙ omega arith) long small clean fit held
+    ∙ ap (λ (y : ℕ). rebuilt c (stripOf us n) y 0) held

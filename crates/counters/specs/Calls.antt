@@ -30,6 +30,10 @@ leaving r x y = outcome (done (r .handle) x y) (r .words) (r .counters)
 abbrev pub rebuilt : ℕ → List ℕ → ℕ → ℕ → Outcome ChangedTold
 rebuilt c s x y = leaving (builtRecord c s) x y
 
+-- .. and answers the total, the ones held
+abbrev pub relaid : ℕ → List ℕ → Outcome ChangedTold
+relaid c s = rebuilt c s (totalOf s) 0
+
 -- lay(capacity): 1, 2, 3; zeroes words and counters, which is the record laid afresh from the empty strip (AfreshLaws.words-zero, counters-zero), gives its
 -- handle, and answers the number of counters
 abbrev pub createOutcome : ℕ → List ℕ → List ℕ → Outcome CreatedTold
@@ -50,7 +54,7 @@ Pushed h v ws cs =
     (Fits h ws cs)
     (Near h (handle (h .capacity) (h .length + 1) (h .total + v)) (h .length) (h .length) v ws cs)
 
--- turn(i): 1, 2, 3; 4 i not below the length
+-- turn(i) but for 9 by the total, and so the paper machine's table: 1, 2, 3; 4 i not below the length
 abbrev pub flipTable : Handle → ℕ → ℕ → ℕ → List Line
 flipTable h words counters i = checks h words counters ++ (belowLine (h .length) i ∷ [])
 
@@ -62,13 +66,13 @@ turnedBit h ws i = 1 - cell (heldStrip h ws) i
 abbrev pub totalLine : Handle → ℕ → Line
 totalLine h b = cond (eqb b 1) (leb (h .length) (h .total)) (eqb (h .total) 0) ⇒ 9
 
--- turn on any record: 1, 2, 3; 4; then 9 by the total, which never comes on a fitting one (PromiseLaws.total-moves)
+-- the call's own table: 1, 2, 3; 4; then 9 by the total, on any record; it never comes on a fitting one (PromiseLaws.total-moves)
 abbrev pub moveTable : Handle → List ℕ → ℕ → ℕ → List Line
 moveTable h ws counters i = flipTable h (length ws) counters i ++ (totalLine h (turnedBit h ws i) ∷ [])
 
 -- the handle with the total moved by one: up where a bit becomes 1, else down
-abbrev pub totalMoved : Handle → ℕ → Handle
-totalMoved h b = handle (h .capacity) (h .length) (cond (eqb b 1) (h .total + 1) (h .total - 1))
+abbrev pub turnedHandle : Handle → ℕ → Handle
+turnedHandle h b = handle (h .capacity) (h .length) (cond (eqb b 1) (h .total + 1) (h .total - 1))
 
 -- it replaces one bit by its opposite, moves the total, and answers the new bit and the number of counters whose value changed
 abbrev pub Flipped : Handle → ℕ → List ℕ → List ℕ → Outcome ChangedTold → Type 0
@@ -76,7 +80,7 @@ Flipped h i ws cs =
     Promise (Outcome ChangedTold) (judge (moveTable h ws (length cs) i)) (stays h ws cs)
     (rebuilt (h .capacity) (set (heldStrip h ws) i (turnedBit h ws i)) (turnedBit h ws i) (changeCount (blocksOf (h .capacity)) i))
     (Fits h ws cs)
-    (Near h (totalMoved h (turnedBit h ws i)) (turnedBit h ws i) i (turnedBit h ws i) ws cs)
+    (Near h (turnedHandle h (turnedBit h ws i)) (turnedBit h ws i) i (turnedBit h ws i) ws cs)
 
 -- run(a, b, v): 1, 2, 3; 8; 5 a above b; 4 b above the length
 abbrev pub fillTable : Handle → ℕ → ℕ → ℕ → ℕ → ℕ → List Line
@@ -90,7 +94,7 @@ filled s a b v = listOf (λ p. cond (leb a p && ltb p b) v (cell s p)) (length s
 abbrev pub fillOutcome : Handle → ℕ → ℕ → ℕ → List ℕ → List ℕ → Outcome ChangedTold
 fillOutcome h a b v ws cs =
     unless (judge (fillTable h (length ws) (length cs) a b v)) (stays h ws cs)
-    (rebuilt (h .capacity) (filled (heldStrip h ws) a b v) (totalOf (filled (heldStrip h ws) a b v)) 0)
+    (relaid (h .capacity) (filled (heldStrip h ws) a b v))
 
 -- cut(n): 1, 2, 3; 4 n above the length
 abbrev pub truncateTable : Handle → ℕ → ℕ → ℕ → List Line
@@ -100,7 +104,7 @@ truncateTable h words counters n = checks h words counters ++ (withinLine (h .le
 abbrev pub truncateOutcome : Handle → ℕ → List ℕ → List ℕ → Outcome ChangedTold
 truncateOutcome h n ws cs =
     unless (judge (truncateTable h (length ws) (length cs) n)) (stays h ws cs)
-    (rebuilt (h .capacity) (take n (heldStrip h ws)) (totalOf (take n (heldStrip h ws))) 0)
+    (relaid (h .capacity) (take n (heldStrip h ws)))
 
 -- count(v, i): 1, 2, 3; 8; 4 i above the length; then 9
 abbrev pub rankTable : Handle → ℕ → ℕ → ℕ → ℕ → List Line

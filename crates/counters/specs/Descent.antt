@@ -28,11 +28,11 @@ Rising B = (a b : ℕ) → a ≤ b → B a ≤ B b
 abbrev pub PartCounters : (P : ℕ → ℕ) (v size : ℕ) (xs : List ℕ) (from : ℕ) → Type 0
 PartCounters P v size xs from = (i : ℕ) → i < 7 → ValueCount v (size * (i + 1)) (getD xs (from + i) 0) (P (i + 1))
 
--- by such counters, `index` of the parts 1 to 7 end with at most k of v
+-- `index` is at most 7; by such counters, it is how many of the parts 1 to 7 end with at most k of v
 abbrev pub PartWith : (v size : ℕ) (xs : List ℕ) (from k index : ℕ) → Type 0
 PartWith v size xs from k index = (index ≤ 7) × ((P : ℕ → ℕ) → PartCounters P v size xs from → index ≡ ones (atMost (λ i. P (i + 1)) k) 7)
 
--- by such counters, `left` is k less the v in the first `index` parts, where these are at most k
+-- by such counters, where no v lies before the first part, `left` is k less the v in the first `index` parts, if these are at most k
 abbrev pub LeftAfter : (v size : ℕ) (xs : List ℕ) (from k index left : ℕ) → Type 0
 LeftAfter v size xs from k index left = (P : ℕ → ℕ) → PartCounters P v size xs from → P 0 ≡ 0 → P index ≤ k → P index + left ≡ k
 

@@ -1,11 +1,15 @@
 // The calls that lay or change a record. A refusal changes no word and no counter, and gives back the handle that it got.
 ghost use mathlib.Core.Path.{_≡_};
 ghost use mathlib.Core.Bool.{cond};
-ghost use Prim.Native.Nat.{_-_, _^_, _≤_};
+ghost use Prim.Native.Nat.{_-_, _*_, _^_, _≤_};
 ghost use lib.Dec.{eqb};
 ghost use lib.ListN.{length, replicate};
+ghost use Rattle.words.specs.Handles.{mostBits};
+ghost use Rattle.words.specs.Strip.{stripOf};
+ghost use Rattle.counters.specs.Tree.{blocksOf};
+ghost use Rattle.counters.specs.Working.{TreeOver};
 ghost use Rattle.counters.specs.Promises.{changedOf, createdOf, outcome};
-ghost use Rattle.counters.specs.Calls.{createOutcome, Pushed, Flipped, fillOutcome, truncateOutcome};
+ghost use Rattle.counters.specs.Calls.{relaid, createOutcome, Pushed, Flipped, fillOutcome, truncateOutcome};
 use super::answer::Changed;
 use super::answer::Created;
 use super::build::build_counters;
@@ -96,6 +100,16 @@ pub fn flip(h: Handle, words: &mut [u64], counters: &mut [u32], i: usize) -> Cha
     }
 }
 
+// Zeroes the bits from n on and lays all counters; the ones that the words then hold are the total and the answer.
+fn rebuild(words: &mut [u64], counters: &mut [u32], capacity: usize, n: usize) -> Changed
+    requires { ⌜ (n ≤ capacity) × (capacity ≤ mostBits) × (capacity ≡ 512 * blocksOf capacity) × (length (now words) ≡ 8 * blocksOf capacity) × TreeOver (blocksOf capacity) (now counters) ⌝ }
+    ensures { λ r. ⌜ outcome (changedOf r) (now (words .exit)) (now (counters .exit)) ≡ relaid capacity (stripOf (now (words .entry)) n) ⌝ }
+{
+    put_positions(words, n, capacity, 0);
+    let ones = build_counters(words, counters, capacity / BLOCK_BITS);
+    Changed::Done(Handle::new(capacity, n, ones), ones as u64, 0)
+}
+
 // run(a, b, v): sets the positions a to b - 1 to v, zeroes the bits past the length, lays all counters and the total, and answers the ones held.
 pub fn fill(
     h: Handle,
@@ -110,12 +124,8 @@ pub fn fill(
     match check_fill(h, words.len(), counters.len(), a, b, v) {
         Verdict::Refuse(r) => Changed::Refused(h, r),
         Verdict::Pass => {
-            let capacity = h.capacity;
-            let n = h.length;
             put_positions(words, a, b, v);
-            put_positions(words, n, capacity, 0);
-            let ones = build_counters(words, counters, capacity / BLOCK_BITS);
-            Changed::Done(Handle::new(capacity, n, ones), ones as u64, 0)
+            rebuild(words, counters, h.capacity, h.length)
         }
     }
 }
@@ -126,11 +136,6 @@ pub fn truncate(h: Handle, words: &mut [u64], counters: &mut [u32], n: usize) ->
 {
     match check_truncate(h, words.len(), counters.len(), n) {
         Verdict::Refuse(r) => Changed::Refused(h, r),
-        Verdict::Pass => {
-            let capacity = h.capacity;
-            put_positions(words, n, capacity, 0);
-            let ones = build_counters(words, counters, capacity / BLOCK_BITS);
-            Changed::Done(Handle::new(capacity, n, ones), ones as u64, 0)
-        }
+        Verdict::Pass => rebuild(words, counters, h.capacity, n),
     }
 }

@@ -7,7 +7,7 @@ ghost use lib.ListN.{length};
 ghost use Rattle.words.specs.Bits.{bitAt};
 ghost use Rattle.words.specs.Refusals.{judge, verdictOf};
 ghost use Rattle.words.specs.Handles.{mostBits};
-ghost use Rattle.counters.specs.Calls.{checks, pushTable, totalLine, moveTable, totalMoved, fillTable, truncateTable, rankTable, selectTable};
+ghost use Rattle.counters.specs.Calls.{checks, pushTable, totalLine, moveTable, turnedHandle, fillTable, truncateTable, rankTable, selectTable};
 use super::shape::counter_count;
 use words::Handle;
 use words::Refusal;
@@ -45,7 +45,7 @@ pub fn check_push(h: Handle, words: usize, counters: usize, v: u64) -> Verdict
 // The total moved by one, up where a bit becomes 1, else down; modulo 2^64, so that one below 0 is above the length too.
 pub fn moved_total(h: Handle, b: u64) -> usize
     requires { ⌜ (b ≤ 1) × (h .total ≤ h .length) × (h .length ≤ mostBits) ⌝ }
-    ensures { λ r. ⌜ (ltb (h .length) r ≡ totalLine h b .applies) × (totalLine h b .applies ≡ false → r ≡ totalMoved h b .total) ⌝ }
+    ensures { λ r. ⌜ (ltb (h .length) r ≡ totalLine h b .applies) × (totalLine h b .applies ≡ false → r ≡ turnedHandle h b .total) ⌝ }
 {
     let up = h.total as u64 + 2 * b;
     std::num::wrapping_sub_u64(up, 1) as usize

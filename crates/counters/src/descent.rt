@@ -80,14 +80,14 @@ fn part_with(counters: &[u32], from: usize, size: u32, v: u64, k: u32) -> usize
     count as usize
 }
 
-// k less the v in the first c of those parts. The last counter of them is read by its place, so that the loop above carries no counter's value along; where
-// there is none, the counter before `from` is read and its value not used, so that no branch waits for c.
-fn left_after(counters: &[u32], from: usize, size: u32, v: u64, k: u32, c: usize) -> u32
-    requires { ⌜ (1 ≤ from) × (from + 7 ≤ length (now counters)) × (size ≤ 8 * mostChildBits) × (v ≤ 1) × (c ≤ 7) ⌝ }
-    ensures { λ r. ⌜ LeftAfter v size (now (counters .entry)) from k c r ⌝ }
+// k less the v in the first `index` of those parts, by the last of their counters. It is read again, by its place, so that the loop of `part_with` carries no
+// counter's value along. Where there is none, the counter before `from` is read and its value not used: the read waits for no test.
+fn left_after(counters: &[u32], from: usize, size: u32, v: u64, k: u32, index: usize) -> u32
+    requires { ⌜ (1 ≤ from) × (from + 7 ≤ length (now counters)) × (size ≤ 8 * mostChildBits) × (v ≤ 1) × (index ≤ 7) ⌝ }
+    ensures { λ r. ⌜ LeftAfter v size (now (counters .entry)) from k index r ⌝ }
 {
-    let last = value_count(v, size * c as u32, counters[from + c - 1]);
-    if c == 0 {
+    let last = value_count(v, size * index as u32, counters[from + index - 1]);
+    if index == 0 {
         return k;
     }
     std::num::wrapping_sub_u32(k, last)

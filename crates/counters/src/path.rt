@@ -21,8 +21,8 @@ fn add_each(lanes: &mut [u32], steps: &[u32])
 }
 
 // Adds d to the counters of a node that count its child c, the summaries past c's group and the keys of its group from c on, and answers their number.
-// `steps` is eight zeros, then eight times d: the eight of them from number 8 - k on are 0 for the first k counters, d for the others. For the keys they
-// are taken from number 1 on, so that both places are 7 less an octal digit of c.
+// `steps` is eight zeros, then eight times d: the eight of them from number 8 - k on are 0 for the first k counters, d for the others. The keys take theirs
+// from the steps past the first, so that both offsets are 7 less an octal digit of c, which takes fewer instructions than 8 less the digit.
 fn move_node(node: &mut [u32], steps: &[u32], c: usize) -> usize
     requires { ⌜ (length (now node) ≡ 72) × (length (now steps) ≡ 16) × (c < 64) ⌝ }
     ensures { λ r. ⌜ (r ≡ 15 - c % 8 - c / 8) × ((d : ℕ) → Steps 8 d (now (steps .entry)) → NodeMoved c d (now (node .entry)) (now (node .exit))) ⌝ }

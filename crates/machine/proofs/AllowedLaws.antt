@@ -23,7 +23,7 @@ use Rattle.words.proofs.CheckLaws.{not-both, passes, passed-both}
 use Rattle.counters.specs.Tree.{blocksOf, counter, counts, changeCount}
 use Rattle.counters.specs.Record.{StripRecord, packedWords, builtCounters}
 use Rattle.counters.specs.Promises.{Promise, BitPut, PathMoved, Near, AtMost, PlaceBelow, Below}
-use Rattle.counters.specs.Calls.{checks, heldStrip, rebuilt, pushTable, flipTable, moveTable, totalMoved, selectTable}
+use Rattle.counters.specs.Calls.{checks, heldStrip, rebuilt, pushTable, flipTable, moveTable, turnedHandle, selectTable}
 use Rattle.image.specs.Chain.{kindOf}
 use Rattle.image.specs.Rows.{rowBits}
 use Rattle.image.specs.Calls.{rowPart, rowLength}
@@ -180,7 +180,7 @@ module _ (a : StripState) (g : StripGood a) where
 
   -- turn
   flip-free : (i : ℕ) → judge (moveTable (r .handle) (r .words) (length (r .counters)) i) ≡ none
-      → Near (r .handle) (totalMoved (r .handle) (1 - cell (heldStrip (r .handle) (r .words)) i)) (1 - cell (heldStrip (r .handle) (r .words)) i) i
+      → Near (r .handle) (turnedHandle (r .handle) (1 - cell (heldStrip (r .handle) (r .words)) i)) (1 - cell (heldStrip (r .handle) (r .words)) i) i
       (1 - cell (heldStrip (r .handle) (r .words)) i) (r .words) (r .counters)
       (rebuilt (a .capacity) (flipped (heldStrip (r .handle) (r .words)) i) (1 - cell (heldStrip (r .handle) (r .words)) i)
       (changeCount (blocksOf (a .capacity)) i))
@@ -193,12 +193,12 @@ module _ (a : StripState) (g : StripGood a) where
       let b : ℕ = 1 - cell (a .strip) i in
       let long : length (set (a .strip) i b) ≡ length (a .strip) = length-set (a .strip) i b in
       subst (λ (u : List ℕ).
-      Near (r .handle) (totalMoved (r .handle) (1 - cell u i)) (1 - cell u i) i (1 - cell u i) (r .words) (r .counters)
+      Near (r .handle) (turnedHandle (r .handle) (1 - cell u i)) (1 - cell u i) i (1 - cell u i) (r .words) (r .counters)
       (rebuilt (a .capacity) (flipped u i) (1 - cell u i) (changeCount (blocksOf (a .capacity)) i)))
       (sym (strip-is a g))
       (change-free (a .capacity) (a .strip) (set (a .strip) i b) i b (sized a g .step) (sized a g .long) (omega (arith, sized a g .long)) (g .bits)
       (set-bits (a .strip) i b (g .bits) (omega arith)) (getD-set-same (a .strip) i b 0 below) (λ q d. getD-set-other (a .strip) i q b 0 d)
-      (length (a .strip)) (totalMoved (r .handle) b .total) b (changeCount (blocksOf (a .capacity)) i) long (set-total (a .strip) i below (g .bits i))
+      (length (a .strip)) (turnedHandle (r .handle) b .total) b (changeCount (blocksOf (a .capacity)) i) long (set-total (a .strip) i below (g .bits i))
       (changeCount-le (blocksOf (a .capacity)) i))
 
   -- find

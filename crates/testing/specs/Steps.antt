@@ -27,7 +27,7 @@ pub record StepRan (P : Step UnitState → Type 0) (os : List ℕ) (m : LentAll)
   pub holds : P step
   pub same : m ≡ lentAll (step .next .strip .words) (step .next .strip .counters) (step .next .image) (outOver (stepOut step) os)
 
--- with fewer places in `out` nothing runs
+-- with fewer places in `out` than a step's numbers nothing runs
 pub record StepReported (P : Step UnitState → Type 0) (l m : LentAll) : Type 0 where
   pub idle : length (l .out) < outNumbers → m ≡ l
   pub ran : outNumbers ≤ length (l .out) → StepRan P (l .out) m

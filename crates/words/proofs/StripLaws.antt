@@ -64,7 +64,7 @@ total-number s v bits small =
 pub total-absent : (s : List ℕ) (v k : ℕ) → ((p : ℕ) → cell s p ≤ 1) → v ≤ 1 → ofValue v (length s) (totalOf s) ≤ k → select s v k ≡ none
 total-absent s v k bits small l = select-none (cell s) (length s) v k (omega (arith, total-number s v bits small))
 
--- and 0 where there is no cell
+-- the empty strip's total is 0
 pub total-none : totalOf [] ≡ 0
 total-none = omega (arith, total-le [])
 

@@ -25,7 +25,7 @@ withinLine n i = ltb n i ⇒ 4
 abbrev pub spanLine : ℕ → ℕ → Line
 spanLine a b = ltb b a ⇒ 5
 
--- 6 no such stroke: k not below n, which is the number of v, or the length, which is no less
+-- 6 no such stroke: k not below n, which is the number of v for a strip, the length for a row
 abbrev pub absentLine : ℕ → ℕ → Line
 absentLine n k = leb n k ⇒ 6
 

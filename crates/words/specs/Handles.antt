@@ -28,7 +28,7 @@ handle c n t = record { capacity = c; length = n; total = t }
 abbrev pub handleOf : ℕ → List ℕ → Handle
 handleOf c s = handle c (length s) (totalOf s)
 
--- a capacity that is allowed, a length not above it, and a total not above that
+-- a capacity that is allowed, a length not above the capacity, and a total not above the length
 abbrev pub good : Handle → Bool
 good h = allowed (h .capacity) && (leb (h .length) (h .capacity) && leb (h .total) (h .length))
 

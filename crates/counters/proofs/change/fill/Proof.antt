@@ -1,18 +1,17 @@
 -- `counters::change::fill` meets its contract. Assumes nothing.
-use mathlib.Core.Path.{_≡_, ap, _∙_}
+use mathlib.Core.Path.{ap, _∙_}
 use mathlib.Core.List.{[], _∷_}
-use Prim.Native.Nat.{_*_, _/_, _≤_}
+use Prim.Native.Nat.{_≤_}
 use native.Mathlib.Omega.{arith}
 use borrow.Author.Needs.{needs}
 use lib.ListN.{length}
 use borrow.Author.Tests.{ltb-false}
-use Rattle.words.specs.declared.handle.Handle.{Handle}
-use Rattle.words.specs.Bits.{bitAt, ones}
 use Rattle.words.specs.Calls.{valueLine, withinLine, spanLine}
 use Rattle.words.proofs.CheckLaws.{unless-refused, unless-passed}
-use Rattle.counters.specs.Promises.{done, outcome, stays}
-use Rattle.counters.specs.Calls.{fillTable}
-use Rattle.counters.proofs.PromiseLaws.{tree-over, PassedRecord, record-passed, fill-done}
+use Rattle.counters.specs.Promises.{stays}
+use Rattle.counters.specs.Calls.{relaid, fillTable}
+use Rattle.counters.proofs.ChangeLaws.{fill-strip}
+use Rattle.counters.proofs.PromiseLaws.{tree-over, PassedRecord, record-passed}
 use Rattle.counters.proofs.change.fill.Statement.{statement}
 use Rattle.counters.proofs.change.fill.Tie as tie
 
@@ -48,21 +47,11 @@ put-positions-requires c κs =
     let z = pass (c .before) .known in
     (span (c .before), omega (arith, within (c .before), z .words, z .step, z .long), fine (c .before), omega (arith, z .words, z .most))
 
-put-positions-requires-2 : tie.Need-put-positions-requires-2
-put-positions-requires-2 c κs =
-    let z = pass (c .before .before .before .before .before) .known in
-    let put = c .before .before .before .put-positions .ensures in
-    (z .long, omega (arith, put .long, z .words, z .step), omega arith, omega (arith, put .long, z .words, z .most))
-
-build-counters-requires : tie.Need-build-counters-requires
-build-counters-requires c κs =
-    let z = pass (c .before .before .before .before .before .before .before .before .before .before) .known in
-    let put = c .before .before .before .before .before .before .before .before .put-positions .ensures in
-    let wipe = c .before .before .before .before .put-positions2 .ensures in
-    (omega (arith, put .long, wipe .long, z .words, z .step), tree-over z)
-
-new-requires : tie.Need-new-requires
-new-requires c κs = search needs
+rebuild-requires : tie.Need-rebuild-requires
+rebuild-requires c κs =
+    let z = pass (c .before .before .before .before .before .before) .known in
+    let put = c .before .before .before .before .put-positions .ensures in
+    (z .long, z .most, omega (arith, z .step), omega (arith, put .long, z .words, z .step), tree-over z)
 
 returns : tie.Need-returns
 returns c =
@@ -78,18 +67,11 @@ same-length-2 c = search needs
 
 returns-2 : tie.Need-returns-2
 returns-2 c =
-    let l = c .before in
-    let e = l .before .before .before .before .before .before .before .before .before .before .before .before .before in
+    let e = c .before .before .before .before .before .before .before .before .before .before .before in
     let a = e .before .before .before .before .before .args in
-    let put = l .before .before .before .before .before .before .before .before .before .before .before .put-positions in
-    let wipe = l .before .before .before .before .before .before .before .put-positions2 in
-    let built = l .before .before .build-counters in
-    let z = pass e .known in
-    let whole : 512 * (a .h .capacity / 512) ≡ a .h .capacity = omega (arith, z .step) in
-    ap (λ (g : Handle). outcome (done g (built .result) 0) (wipe .last .0) (built .last .1 .0)) (c .new .ensures)
-    ∙ fill-done (a .h) (a .words .now) (put .last .0) (wipe .last .0) (a .counters .now) (built .last .1 .0) (a .a) (a .b) (a .v) (built .result) z
-    (put .ensures) (wipe .ensures) (λ k. l .before .before .before .before .before .slice-known4 .given k .fits) (built .kept .1 .0)
-    (built .ensures .0 ∙ ap (ones (bitAt (wipe .last .0))) whole) (built .ensures .1)
+    let put = c .before .before .before .before .before .before .before .before .before .put-positions in
+    c .before .before .before .before .rebuild .ensures
+    ∙ ap (relaid (a .h .capacity)) (fill-strip (a .words .now) (put .last .0) (a .h .length) (a .a) (a .b) (a .v) (put .ensures))
     ∙ unless-passed (fillTable (a .h) (length (a .words .now)) (length (a .counters .now)) (a .a) (a .b) (a .v)) (e .before .before .check-fill .result)
     (stays (a .h) (a .words .now) (a .counters .now)) _ (e .before .before .check-fill .ensures) (e .enum-told .given .1)
 
@@ -101,9 +83,7 @@ fill-spec =
     enum-known-r
     enum-told
     put-positions-requires
-    put-positions-requires-2
-    build-counters-requires
-    new-requires
+    rebuild-requires
     returns
     same-length
     same-length-2

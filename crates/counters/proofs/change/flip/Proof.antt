@@ -14,7 +14,7 @@ use Rattle.words.specs.Handles.{handle}
 use Rattle.words.specs.Calls.{belowLine}
 use Rattle.words.proofs.StripLaws.{strip-cell}
 use Rattle.counters.specs.Promises.{done, outcome, stays}
-use Rattle.counters.specs.Calls.{turnedBit, totalLine, moveTable, totalMoved, Flipped}
+use Rattle.counters.specs.Calls.{turnedBit, totalLine, moveTable, turnedHandle, Flipped}
 use Rattle.counters.proofs.PromiseLaws.{tree-over, promise-refused, PassedRecord, record-passed, flip-done}
 use Rattle.counters.proofs.change.flip.Statement.{statement}
 use Rattle.counters.proofs.change.flip.Tie as tie
@@ -88,13 +88,13 @@ returns-2 c =
     let same : turnedBit (a .h) (a .words .now) (a .i) ≡ flipped .result =
     ap (λ (x : ℕ). 1 - x) (strip-cell (a .words .now) (a .h .length) (a .i) (below e)) ∙ sym b in
     let free : totalLine (a .h) (flipped .result) .applies ≡ false = ap (λ (x : ℕ). totalLine (a .h) x .applies) (sym same) ∙ pass e .own .1 .0 in
-    let made : c .new .result ≡ totalMoved (a .h) (flipped .result) =
+    let made : c .new .result ≡ turnedHandle (a .h) (flipped .result) =
     c .new .ensures ∙ ap (handle (a .h .capacity) (a .h .length)) (t .ensures .1 free) in
     subst (λ (k : Handle). Flipped (a .h) (a .i) (a .words .now) (a .counters .now)
     (outcome (done k (flipped .result) (raised .result)) (flipped .last .0) (raised .last .0)))
     (sym made)
     (subst (λ (x : ℕ). Flipped (a .h) (a .i) (a .words .now) (a .counters .now)
-    (outcome (done (totalMoved (a .h) x) x (raised .result)) (flipped .last .0) (raised .last .0)))
+    (outcome (done (turnedHandle (a .h) x) x (raised .result)) (flipped .last .0) (raised .last .0)))
     (sym b)
     (flip-done (a .h) (a .words .now) (flipped .last .0) (a .counters .now) (raised .last .0) (a .i) (raised .result) (stepped .result) (pass e .known) (below e)
     (flipped .ensures .1) (λ k. m .before .before .before .before .before .before .slice-known3 .given k .fits) (raised .ensures .1) (raised .ensures .0)

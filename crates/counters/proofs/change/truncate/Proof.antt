@@ -1,18 +1,17 @@
 -- `counters::change::truncate` meets its contract. Assumes nothing.
-use mathlib.Core.Path.{_≡_, ap, _∙_}
+use mathlib.Core.Path.{ap, _∙_}
 use mathlib.Core.List.{[], _∷_}
-use Prim.Native.Nat.{_*_, _/_, _≤_}
+use Prim.Native.Nat.{_≤_}
 use native.Mathlib.Omega.{arith}
 use borrow.Author.Needs.{needs}
 use lib.ListN.{length}
 use borrow.Author.Tests.{ltb-false}
-use Rattle.words.specs.declared.handle.Handle.{Handle}
-use Rattle.words.specs.Bits.{bitAt, ones}
 use Rattle.words.specs.Calls.{withinLine}
 use Rattle.words.proofs.CheckLaws.{unless-refused, unless-passed}
-use Rattle.counters.specs.Promises.{done, outcome, stays}
-use Rattle.counters.specs.Calls.{truncateTable}
-use Rattle.counters.proofs.PromiseLaws.{tree-over, PassedRecord, record-passed, truncate-done}
+use Rattle.counters.specs.Promises.{stays}
+use Rattle.counters.specs.Calls.{relaid, truncateTable}
+use Rattle.counters.proofs.ChangeLaws.{cut-strip}
+use Rattle.counters.proofs.PromiseLaws.{tree-over, PassedRecord, record-passed}
 use Rattle.counters.proofs.change.truncate.Statement.{statement}
 use Rattle.counters.proofs.change.truncate.Tie as tie
 
@@ -36,19 +35,10 @@ pass c =
 within : (c : tie.After-enum-told) → c .before .before .before .before .before .args .n ≤ c .before .before .before .before .before .args .h .length
 within c = ltb-false (c .before .before .before .before .before .args .h .length) (c .before .before .before .before .before .args .n) (pass c .own .0)
 
-put-positions-requires : tie.Need-put-positions-requires
-put-positions-requires c κs =
-    let z = pass (c .before) .known in
-    (omega (arith, within (c .before), z .long), omega (arith, z .words, z .step), omega arith, omega (arith, z .words, z .most))
-
-build-counters-requires : tie.Need-build-counters-requires
-build-counters-requires c κs =
-    let z = pass (c .before .before .before .before .before .before) .known in
-    let wipe = c .before .before .before .before .put-positions .ensures in
-    (omega (arith, wipe .long, z .words, z .step), tree-over z)
-
-new-requires : tie.Need-new-requires
-new-requires c κs = search needs
+rebuild-requires : tie.Need-rebuild-requires
+rebuild-requires c κs =
+    let z = pass (c .before .before) .known in
+    (omega (arith, within (c .before .before), z .long), z .most, omega (arith, z .step), omega (arith, z .words, z .step), tree-over z)
 
 returns : tie.Need-returns
 returns c =
@@ -64,17 +54,10 @@ same-length-2 c = search needs
 
 returns-2 : tie.Need-returns-2
 returns-2 c =
-    let l = c .before in
-    let e = l .before .before .before .before .before .before .before .before .before in
+    let e = c .before .before .before .before .before .before .before in
     let a = e .before .before .before .before .before .args in
-    let wipe = l .before .before .before .before .before .before .before .put-positions in
-    let built = l .before .before .build-counters in
-    let z = pass e .known in
-    let whole : 512 * (a .h .capacity / 512) ≡ a .h .capacity = omega (arith, z .step) in
-    ap (λ (g : Handle). outcome (done g (built .result) 0) (wipe .last .0) (built .last .1 .0)) (c .new .ensures)
-    ∙ truncate-done (a .h) (a .words .now) (wipe .last .0) (a .counters .now) (built .last .1 .0) (a .n) (built .result) z (within e)
-    (wipe .ensures) (λ k. l .before .before .before .before .before .slice-known3 .given k .fits) (built .kept .1 .0)
-    (built .ensures .0 ∙ ap (ones (bitAt (wipe .last .0))) whole) (built .ensures .1)
+    c .before .before .before .before .rebuild .ensures
+    ∙ ap (relaid (a .h .capacity)) (cut-strip (a .words .now) (a .h .length) (a .n) (within e))
     ∙ unless-passed (truncateTable (a .h) (length (a .words .now)) (length (a .counters .now)) (a .n)) (e .before .before .check-truncate .result)
     (stays (a .h) (a .words .now) (a .counters .now)) _ (e .before .before .check-truncate .ensures) (e .enum-told .given .1)
 
@@ -85,9 +68,7 @@ truncate-spec =
     check-truncate-requires
     enum-known-r
     enum-told
-    put-positions-requires
-    build-counters-requires
-    new-requires
+    rebuild-requires
     returns
     same-length
     same-length-2

@@ -39,7 +39,7 @@ returns-2 c P h z l =
     let s = c .before .before .before .before .before .args in
     let x = c .before .before .value-count in
     let r = c .wrapping-sub-u32 in
-    let e : x .result ≡ P (s .c) = x .ensures (P (s .c)) (nth-valued P (s .v) (s .size) (s .from) (s .c) (s .counters .now) h (omega arith) (omega arith)) in
+    let e : x .result ≡ P (s .index) = x .ensures (P (s .index)) (nth-valued P (s .v) (s .size) (s .from) (s .index) (s .counters .now) h (omega arith) (omega arith)) in
     omega (arith, e, sub-exact (s .k) (x .result) (r .result) (omega arith) (r .ensures) (omega arith))
 
 pub left-after-spec : {M : Type 1} → statement M
