@@ -108,7 +108,7 @@ HAND = {
     "hand_merged": "`hand_merged`: the same, counts of three vectors merged",
     "hand_popcnt": "`hand_popcnt`: the same with popcnt, which baseline x86-64 has not",
 }
-# The shares of ones with which calls were measured before and after the total came, and how many times the time before
+# The shares of ones with which calls were measured without a total and with one, and how many times the time without it
 # each may take; those that may take no more are judged by the noise too.
 TOTAL_SHARES = ("32/64", "1/1024")
 TOTAL_MOST = {"find 1": 1, "find 0": 1, "turn": 1.05, "add": 1.05}
@@ -412,7 +412,7 @@ def short_table(of):
 
 
 def total_table(of):
-    """Find, turn and add before and after the total came."""
+    """Find, turn and add without a total and with one."""
     rows = []
     for key in ((power, share, call) for power in POWERS for share in TOTAL_SHARES for call in TOTAL_MOST):
         times = [duration(of.time(*key, column)) for column in ("before", "library")]

@@ -6,13 +6,11 @@
 #include "expect.h"
 #include "judge.h"
 
-/* A strip over these words, and the five arguments that the calls take for it. */
+/* A strip over these words. */
 static struct strip over(uint64_t capacity, uint64_t length, const uint64_t *words, size_t words_len)
 {
     return (struct strip){{capacity, length, 0}, (const uint8_t *)words, words_len};
 }
-
-#define OF(s) OF_STRIP(s)
 
 /* ---- What the calls tell, and no more than that. */
 

@@ -435,7 +435,7 @@ struct strip {
 };
 
 /* The arguments of a strip on words alone. */
-#define OF_STRIP(s) OF_HANDLE((s).handle), (const uint64_t *)(s).bits, (s).words_len
+#define OF(s) OF_HANDLE((s).handle), (const uint64_t *)(s).bits, (s).words_len
 
 /* 1 and 2 of the first strip, 1 and 2 of the second, 16, or 0. */
 static inline uint64_t pair_refused(struct strip first, struct strip second)

@@ -346,8 +346,8 @@ static int told_out(enum call call, struct out o)
     return 1;
 }
 
-/* One change with drawn arguments, under a handle. What create is lent is not set. */
-static void make_change(const struct record *r, enum call call, struct handle h, uint64_t v, struct out o)
+/* One change with drawn arguments, under a handle; the first of its positions. What create is lent is not set. */
+static uint64_t make_change(const struct record *r, enum call call, struct handle h, uint64_t v, struct out o)
 {
     uint64_t length = r->handle.length, i = position(length), k = one_in(2) ? i + below(200) : position(length);
     if (call == CREATE) {
@@ -363,6 +363,7 @@ static void make_change(const struct record *r, enum call call, struct handle h,
     } else {
         strip_truncate(OF_HANDLE(h), WORDS_MUT(r), COUNTERS_MUT(r), i, o.at, o.room);
     }
+    return i;
 }
 
 /* The total that an accepted change leaves: by its values, or moved by one. */
@@ -387,12 +388,12 @@ static int all_set(struct lent l)
 static void change(struct record *r, enum call call)
 {
     struct handle h = some_handle(r);
-    uint64_t v = value();
+    uint64_t v = value(), i;
     struct out o = lend_out(STRIP_OUT);
     uint64_t *out = (uint64_t *)o.lent.write;
     keep(&words_copy, r->words);
     keep(&counters_copy, r->counters);
-    make_change(r, call, h, v, o);
+    i = make_change(r, call, h, v, o);
     if (told_out(call, o) && out[0] == 0) {
         expect(call, all_set(r->words) && all_set(r->counters), "left a number unset");
         expect(call, out[3] == h.capacity && out[4] <= h.capacity && out[5] <= out[4], "a wrong handle given back");
@@ -403,9 +404,12 @@ static void change(struct record *r, enum call call)
     VALGRIND_MAKE_MEM_DEFINED(r->words.write, r->words.length);
     VALGRIND_MAKE_MEM_DEFINED(r->counters.write, r->counters.length);
     expect(call, same(&words_copy, r->words) && same(&counters_copy, r->counters), "refused, and changed the record");
-    if (o.room >= STRIP_OUT)
-        expect(call, same_handle(handle_told(out), call == CREATE ? (struct handle){0, 0, 0} : h),
-               "refused, and another handle given back");
+    if (o.room < STRIP_OUT)
+        return;
+    expect(call, same_handle(handle_told(out), call == CREATE ? (struct handle){0, 0, 0} : h),
+           "refused, and another handle given back");
+    if (out[0] == STRIP_UNFIT)
+        expect(call, h.total == (bit(r->words.write, i) == 1 ? 0 : h.length), "9 where the total can move");
 }
 
 /* look, next and prior, held to the judge. */
