@@ -34,20 +34,16 @@ use Rattle.counters.proofs.AfreshLaws.{fits-total}
 use Rattle.counters.proofs.ChangeLaws as C
 
 -- ---- the cases of a promise
--- refused by its table
-pub promise-early : {A : Type 0} (t : List Line) (refuse : ℕ → A) (late : A) (Fit : Type 0) (Loose : A → Type 0) (n : ℕ)
-    → judge t ≡ some n → Promise A (judge t) refuse late Fit Loose (refuse n)
-promise-early t refuse late Fit Loose n j =
+-- refused by its table, as a function says that judged it
+pub promise-refused : {A : Type 0} (t : List Line) (refuse : ℕ → A) (late : A) (Fit : Type 0) (Loose : A → Type 0) (v : Verdict) (r : Refusal)
+    → verdictOf v ≡ judge t → v ≡ Refuse r → Promise A (judge t) refuse late Fit Loose (refuse (numberOf r))
+promise-refused t refuse late Fit Loose v r e d =
+    let j : judge t ≡ some (numberOf r) = judged-refuse t v r e d in
     record {
-      early = (λ m h. let s : n ≡ m = cc in ap refuse s);
+      early = (λ m h. let s : numberOf r ≡ m = cc in ap refuse s);
       exact = (λ h f. not-both j h);
       loose = (λ h. not-both j h);
     }
-
--- as a function says that judged the table
-pub promise-refused : {A : Type 0} (t : List Line) (refuse : ℕ → A) (late : A) (Fit : Type 0) (Loose : A → Type 0) (v : Verdict) (r : Refusal)
-    → verdictOf v ≡ judge t → v ≡ Refuse r → Promise A (judge t) refuse late Fit Loose (refuse (numberOf r))
-promise-refused t refuse late Fit Loose v r e d = promise-early t refuse late Fit Loose (numberOf r) (judged-refuse t v r e d)
 
 -- passed
 pub promise-passed : {A : Type 0} (t : List Line) (refuse : ℕ → A) (late : A) (Fit : Type 0) (Loose : A → Type 0) (o : A)

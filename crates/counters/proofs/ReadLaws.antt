@@ -23,8 +23,8 @@ use Rattle.words.proofs.WordLaws.{bitAt-le}
 use Rattle.words.proofs.CheckLaws.{judge-append, refused-first, unless-refused, line-found, passes, passed-both}
 use Rattle.words.proofs.BoolLaws.{and-intro, and-first, and-second}
 use Rattle.words.proofs.SameLaws.{same-eq, same-refl}
-use Rattle.words.proofs.SearchLaws.{select-exists, select-place, select-longer, value-rank, value-le}
-use Rattle.words.proofs.StripLaws.{total-absent, strip-length, strip-rank, strip-total, strip-select, strip-le}
+use Rattle.words.proofs.SearchLaws.{select-below, select-longer, value-rank, value-found, value-absent, value-le}
+use Rattle.words.proofs.StripLaws.{strip-length, strip-rank, strip-total, strip-select, strip-le}
 use Rattle.counters.specs.Tree.{blocksOf}
 use Rattle.counters.specs.Record.{Fits, AllFit, packedWords, builtCounters}
 use Rattle.counters.specs.Promises.{AtMost, PlaceBelow}
@@ -53,21 +53,17 @@ module _ (h : Handle) (ws cs : List ℕ) (v k p : ℕ) (z : Sizes h ws cs) (smal
     (pass : judge (selectTable h (length ws) (length cs) v k) ≡ none) (more : k < ofValue v (h .length) (h .total))
     (place : AllFit (bitAt ws) (blocksOf (h .capacity)) cs → k < rankOf (bitAt ws) v (512 * blocksOf (h .capacity))
     → p ≡ placeIn (512 * blocksOf (h .capacity)) (selectOf (bitAt ws) (512 * blocksOf (h .capacity)) v k)) where
-  -- on a fitting record the number of v is count(v, length)
-  number-is : Fits h ws cs → ofValue v (h .length) (h .total) ≡ rankOf (bitAt ws) v (h .length)
-  number-is f = ap (ofValue v (h .length)) (fits-total h ws cs f) ∙ value-rank (bitAt ws) v (h .length) (bitAt-le ws) small
-
-  -- and the position that the counters lead to is the stroke's
+  -- on a fitting record the position that the counters lead to is the stroke's
   place-is : Fits h ws cs → (found (select (heldStrip h ws) v k) ≡ value p) × (p < h .length)
   place-is f =
-      let few : k < rankOf (bitAt ws) v (h .length) = omega (arith, more, number-is f) in
-      let w = select-exists (bitAt ws) (h .length) v k few in
+      let w = value-found (bitAt ws) (h .length) v k (h .total) (bitAt-le ws) small (fits-total h ws cs f) more in
+      let few : k < rankOf (bitAt ws) v (h .length) = select-below (bitAt ws) (h .length) v k (w .0) (w .1) in
       let le : h .length ≤ 512 * blocksOf (h .capacity) = omega (arith, z .step, z .long) in
       let many : k < rankOf (bitAt ws) v (512 * blocksOf (h .capacity)) = omega (arith, few, sum-mono (holds (bitAt ws) v) le) in
       let e : p ≡ w .0 =
       place (f .right) many
       ∙ ap (placeIn (512 * blocksOf (h .capacity))) (select-longer (bitAt ws) (h .length) (512 * blocksOf (h .capacity)) v k le few ∙ w .1) in
-      (ap found (strip-select ws (h .length) v k ∙ w .1) ∙ ap value (sym e), omega (arith, e, select-place (bitAt ws) (h .length) v k (w .0) (w .1) .below))
+      (ap found (strip-select ws (h .length) v k ∙ w .1) ∙ ap value (sym e), omega (arith, e, w .2))
 
   pub select-done : p < h .length → Selected h v k ws cs (value p)
   select-done l =
@@ -86,8 +82,7 @@ select-fits h ws cs v k o f p =
     promise-exact (judge (selectTable h (length ws) (length cs) v k)) p f
     ∙ line-found (first ++ (valueLine v ∷ [])) (heldStrip h ws) v k (ofValue v (h .length) (h .total)) (λ q l.
     let small : v ≤ 1 = ltb-false _ _ (passes (valueLine v ∷ []) (passed-both first (valueLine v ∷ []) q .1) .0) in
-    total-absent (heldStrip h ws) v k (strip-le ws (h .length)) small
-    (subst₂ (λ (x y : ℕ). ofValue v x y ≤ k) (sym (strip-length ws (h .length))) (f .held) l))
+    strip-select ws (h .length) v k ∙ value-absent (bitAt ws) (h .length) v k (h .total) (bitAt-le ws) small (fits-total h ws cs f) l)
 
 -- ---- check
 -- the test is passed where the record fits

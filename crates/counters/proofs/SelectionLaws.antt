@@ -3,7 +3,7 @@
 use mathlib.Core.Path.{_≡_, sym, ap, _∙_, subst}
 use mathlib.Core.Logic.{_⊎_, inl, inr}
 use mathlib.Core.List.{List}
-use Prim.Native.Nat.{ℕ, zero, suc, _+_, _-_, _*_, _/_, _%_, _^_, _≤_, _<_, zero-le}
+use Prim.Native.Nat.{ℕ, zero, suc, _+_, _-_, _*_, _/_, _≤_, _<_, zero-le}
 use native.Mathlib.Nat.{le-refl, mul-one, mul-assoc, mul-left-comm, mul-add, mul-div-cancel-left, add-zero}
 use native.Mathlib.Omega.{arith}
 use lib.ListN.{getD, take, drop}
@@ -26,10 +26,6 @@ use Rattle.counters.proofs.FitLaws.{fit-sum}
 use Rattle.counters.proofs.FlipLaws.{child-there}
 
 -- ---- numbers
-
--- a difference modulo 2^32 that does not wrap
-pub sub-exact : (a b r : ℕ) → r < 2 ^ 32 → (r + b) % 2 ^ 32 ≡ a → b ≤ a → b + r ≡ a
-sub-exact a b r h e l = omega arith
 
 -- one more of a
 pub times-more : (a i : ℕ) → a * (i + 1) ≡ a * i + a

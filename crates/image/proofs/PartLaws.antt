@@ -18,7 +18,8 @@ use Rattle.words.specs.Refusals.{Line, judge, Told, value, refused, found}
 use Rattle.words.proofs.BoolLaws.{and-first, and-second}
 use Rattle.words.proofs.Sums.{lt-or, sum-zero, sum-split, ones-le, sum-mono, part-ones, length-listOf, getD-listOf}
 use Rattle.words.proofs.BitLaws.{bit-le, one-shl}
-use Rattle.words.proofs.SearchLaws.{select-exists, select-place, select-none, select-longer, rank-part, part-select, value-rank, value-le}
+use Rattle.words.proofs.SearchLaws.{select-exists, select-place, select-below, select-longer, rank-part, part-select, value-rank, value-found, value-absent, value-le}
+use Rattle.words.proofs.StripLaws.{total-ones}
 use Rattle.counters.specs.Promises.{Promise, AtMost, Below}
 use Rattle.counters.proofs.PromiseLaws.{promise-passed}
 use Rattle.image.specs.Bytes.{num, bitFrom}
@@ -30,7 +31,7 @@ use Rattle.image.specs.Calls.{goodPart}
 use Rattle.image.specs.Reading.{entryNumber, onesTold, Halved, PadZero}
 use Rattle.image.proofs.KindLaws.{KindFits, EntryTells, times-more, blocks-all, superblocks-cover, superblock-begins}
 use Rattle.image.proofs.ChainLaws.{fields-facts}
-use Rattle.image.proofs.WriteLaws.{listOf-past, listOf-all, record-total, record-pad, record-entry, record-bit, rank-all}
+use Rattle.image.proofs.WriteLaws.{listOf-past, listOf-all, record-total, record-pad, record-entry, record-bit}
 use Rattle.image.proofs.NumberLaws.{bytes-bit}
 
 -- ---- the bits of a row
@@ -76,7 +77,7 @@ module _ (K : Kind) (part : List ℕ) (n : ℕ) (short : n ≤ mostRow) (right :
   right-total =
       right-num 12 4
       ∙ record-total K (num part 0 4) (num part 4 4) t (row-le K part n) (omega (arith, long))
-      ∙ rank-all t (row-le K part n)
+      ∙ total-ones t (row-le K part n)
       ∙ ap (ones (cell t)) long
 
   -- the bytes that pad its entries
@@ -303,10 +304,6 @@ module _ (K : Kind) (t : List Line) (part : List ℕ) (n v k x : ℕ) (pass : ju
   total-is : Right K part n → x ≡ ones (bitsOf K part n) n
   total-is right = said ∙ right-total K part n short right
 
-  -- and the number of v is count(v, n)
-  number-is : Right K part n → ofValue v n x ≡ rankOf (bitsOf K part n) v n
-  number-is right = ap (ofValue v n) (total-is right) ∙ value-rank (bitsOf K part n) v n (row-le K part n) small
-
   -- find(v, k) of the row's bits
   row-select : select (rowBits K part n) v k ≡ selectOf (bitsOf K part n) n v k
   row-select = ap (λ (m : ℕ). selectOf (bitsOf K part n) m v k) (row-length K part n)
@@ -322,7 +319,7 @@ module _ (K : Kind) (t : List Line) (part : List ℕ) (n v k x : ℕ) (pass : ju
   pub select-absent : ofValue v n x ≤ k → Promise Told (judge t) refused (found (select (rowBits K part n) v k)) (Right K part n) (Below 15 n) (refused 6)
   select-absent l =
       promise-passed t refused (found (select (rowBits K part n) v k)) (Right K part n) (Below 15 n) (refused 6) pass
-      (λ right. sym (ap found (row-select ∙ select-none (bitsOf K part n) n v k (omega (arith, number-is right)))))
+      (λ right. sym (ap found (row-select ∙ value-absent (bitsOf K part n) n v k x (row-le K part n) small (total-is right) l)))
       Below.absent
 
   -- the position that the entries lead to
@@ -331,10 +328,9 @@ module _ (K : Kind) (t : List Line) (part : List ℕ) (n v k x : ℕ) (pass : ju
       -- of a right row, it is the stroke's
       place-is : Right K part n → (value p ≡ found (select (rowBits K part n) v k)) × (p < n)
       place-is right =
-          let few : k < rankOf (bitsOf K part n) v n = omega (arith, number-is right) in
-          let w = select-exists (bitsOf K part n) n v k few in
-          let e : p ≡ w .0 = place right few ∙ ap (placeIn n) (w .1) in
-          (ap value e ∙ sym (ap found (row-select ∙ w .1)), omega (arith, select-place (bitsOf K part n) n v k (w .0) (w .1) .below))
+          let w = value-found (bitsOf K part n) n v k x (row-le K part n) small (total-is right) more in
+          let e : p ≡ w .0 = place right (select-below (bitsOf K part n) n v k (w .0) (w .1)) ∙ ap (placeIn n) (w .1) in
+          (ap value e ∙ sym (ap found (row-select ∙ w .1)), omega (arith, e, w .2))
 
       -- a position below the length is the answer
       pub select-done : p < n → Promise Told (judge t) refused (found (select (rowBits K part n) v k)) (Right K part n) (Below 15 n) (value p)

@@ -26,11 +26,12 @@ use Rattle.image.specs.Calls.{goodPart}
 use Rattle.image.specs.Writing.{BlockCounts, superblockCells}
 use Rattle.image.specs.Reading.{entryNumber, PadZero, PaddingZero}
 use Rattle.words.proofs.SameLaws.{same-eq, same-refl}
+use Rattle.words.proofs.StripLaws.{total-ones}
 use Rattle.image.proofs.KindLaws.{KindFits, EntryTells, times-more, bytes-all, superblocks-cover, pad-ends}
 use Rattle.image.proofs.ChainLaws.{decides}
 use Rattle.image.proofs.CountLaws.{counts-ext, counts-all}
 use Rattle.image.proofs.PutLaws.{drop-num}
-use Rattle.image.proofs.WriteLaws.{length-bytes, bytes-at, byte-digits, ones-past, rank-all, entry-placed}
+use Rattle.image.proofs.WriteLaws.{length-bytes, bytes-at, byte-digits, ones-past, entry-placed}
 use Rattle.image.proofs.PartLaws.{row-length, row-cell, row-past, row-le, good-part, good-length, right-total, right-entry, right-pad, right-bits, bits-from}
 
 -- its number of ones, every entry, zeros that pad its entries, and zeros past its length
@@ -44,7 +45,7 @@ pub record RightFacts (K : Kind) (part : List ℕ) (n : ℕ) : Type 0 where
 pub right-ones : (K : Kind) (part : List ℕ) (n : ℕ) → n ≤ mostRow → Right K part n → onesAt part 0 ≡ rank (rowBits K part n) 1 (length (rowBits K part n))
 right-ones K part n short right =
     let t : List ℕ = rowBits K part n in
-    right-total K part n short right ∙ ap (ones (cell t)) (sym (row-length K part n)) ∙ sym (rank-all t (row-le K part n))
+    right-total K part n short right ∙ ap (ones (cell t)) (sym (row-length K part n)) ∙ sym (total-ones t (row-le K part n))
 
 -- it has them all
 pub right-facts : (K : Kind) → KindFits K → {told : ℕ → ℕ → ℕ} → EntryTells K told → (part : List ℕ) (n : ℕ) → n ≤ mostRow → Right K part n
@@ -292,7 +293,7 @@ read-done K F T part n e sum total good small x all said =
     let t : List ℕ = rowBits K part n in
     let most : n ≤ K .superblockBits * e = omega (arith, superblocks-cover K F n, mul-le-mul-left (K .superblockBits) all) in
     let is : sum ≡ rank t 1 (length t) =
-    x .count ∙ ones-past t (K .superblockBits * e) (omega (arith, row-length K part n, most)) ∙ sym (rank-all t (row-le K part n)) in
+    x .count ∙ ones-past t (K .superblockBits * e) (omega (arith, row-length K part n, most)) ∙ sym (total-ones t (row-le K part n)) in
     tells-right K F T part n good small (eqb total sum)
     (λ h. record { total = sym said ∙ eqb-true total sum h ∙ is; entries = (λ i l. x .entries i (omega arith)); pad = x .pad; padding = x .padding })
     (λ r. eq-eqb total sum (said ∙ r .total ∙ sym is))

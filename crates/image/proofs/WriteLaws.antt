@@ -2,7 +2,7 @@
 use mathlib.Core.Path.{_≡_, refl, sym, ap, ap₂, _∙_, subst}
 use mathlib.Core.Logic.{⊎-elim}
 use mathlib.Core.List.{List, [], _∷_, _++_, append-assoc, append-nil}
-use Prim.Native.Nat.{ℕ, zero, suc, min, _+_, _-_, _*_, _/_, _%_, _^_, _≤_, _<_}
+use Prim.Native.Nat.{ℕ, zero, suc, _+_, _-_, _*_, _/_, _%_, _^_, _≤_, _<_}
 use native.Mathlib.Nat.{one-mul, mod-lt, mod-eq-of-lt, zero-lt-suc, pow-zero, pow-succ', mul-zero, mul-suc, mul-le-mul-left}
 use native.Mathlib.Omega.{arith}
 use lib.Bits.{bitAnd, and-mask}
@@ -11,13 +11,12 @@ use lib.Pow.{pow-pos}
 use lib.ListN.{length, set, drop, getD, length-append, length-replicate, getD-replicate, List·getD-append, List·getD-eq-default}
 use lib.Seq.{sets, length-sets, ext-getD, drop-drop, drop-append-seam, getD-drop}
 use Rattle.words.specs.Bits.{bit, bitAt, ones, digits, listOf}
-use Rattle.words.specs.Strip.{cell, stripOf, rank, rankOf}
+use Rattle.words.specs.Strip.{cell, stripOf, rank}
 use Rattle.words.proofs.Sums.{lt-or, sum-zero, sum-split, sum-ext, ones-le, length-listOf, getD-listOf, sum-const, sum-none}
 use Rattle.words.proofs.BitLaws.{zero-bit, bit-shr, bit-mod, bit-high}
 use Rattle.words.proofs.WordLaws.{word-bit}
 use Rattle.words.proofs.DigitLaws.{field, digits-ext, digits-at, digits-of}
-use Rattle.words.proofs.SearchLaws.{rank-ones}
-use Rattle.words.proofs.StripLaws.{strip-cell}
+use Rattle.words.proofs.StripLaws.{total-ones, strip-cell}
 use Rattle.image.specs.declared.write.Target.{Target}
 use Rattle.image.specs.Bytes.{num, le, bitFrom}
 use Rattle.image.specs.Kinds.{Kind}
@@ -246,12 +245,6 @@ ones-past t m h =
     sum-const (λ p. cell t (n + p)) 0 (m - n) (λ p l. List·getD-eq-default t 0 {n = n + p} (omega arith)) in
     omega (arith, ap (ones (cell t)) e, sum-split (cell t) n (m - n), z)
 
--- its rank of 1
-pub rank-all : (t : List ℕ) → ((p : ℕ) → cell t p ≤ 1) → rank t 1 (length t) ≡ ones (cell t) (length t)
-rank-all t h =
-    let e : min (length t) (length t) ≡ length t = omega arith in
-    ap (rankOf (cell t) 1) e ∙ rank-ones (cell t) (length t) h
-
 -- ---- a record
 module _ (K : Kind) (x l : ℕ) (t : List ℕ) where
   -- it, its entries, the zeros that pad them, its bits and its ones
@@ -357,7 +350,7 @@ module _ (K : Kind) (x l : ℕ) (t : List ℕ) where
   module _ (bits : (p : ℕ) → cell t p ≤ 1) where
     -- the fourth, likewise
     pub record-total : length t ≤ mostRow → num r 12 4 ≡ rank t 1 (length t)
-    record-total h = record-ones ∙ mod-eq-of-lt (omega (arith, rank-all t bits, ones-le (cell t) (length t) bits))
+    record-total h = record-ones ∙ mod-eq-of-lt (omega (arith, total-ones t bits, ones-le (cell t) (length t) bits))
 
     -- it is a list of bytes
     pub record-small : (i : ℕ) → getD r i 0 < 256
@@ -645,7 +638,7 @@ record-stored K F t n label total at b s s1 s2 s3 s4 s5 s6 long bits place row h
       length-le 4 n,
       length-le 4 total,
     ) in
-    let sum : total ≡ rank t 1 (length t) = row .count ∙ ones-past t (K .superblockBits * k) (omega (arith, superblocks-cover K F n)) ∙ sym (rank-all t bits) in
+    let sum : total ≡ rank t 1 (length t) = row .count ∙ ones-past t (K .superblockBits * k) (omega (arith, superblocks-cover K F n)) ∙ sym (total-ones t bits) in
     let flat : H ++ X ≡ A ++ (B ++ (C ++ (D ++ X))) = simp append-assoc in
     h6
     ∙ ap (λ (l : List ℕ). sets l (at + 12) D)

@@ -17,8 +17,8 @@ use Rattle.words.specs.Refusals.{_⇒_, judge, unless, value, found}
 use Rattle.words.specs.Handles.{handle, handleOf}
 use Rattle.words.specs.Calls.{valueLine, belowLine, absentLine}
 use Rattle.words.proofs.Sums.{lt-or, length-listOf}
-use Rattle.words.proofs.SearchLaws.{rank-le, select-exists, select-place}
-use Rattle.words.proofs.StripLaws.{total-number}
+use Rattle.words.proofs.SearchLaws.{rank-le, select-place, value-found}
+use Rattle.words.proofs.StripLaws.{total-ones}
 use Rattle.words.proofs.CheckLaws.{not-both, passes, passed-both}
 use Rattle.counters.specs.Tree.{blocksOf, counter, counts, changeCount}
 use Rattle.counters.specs.Record.{StripRecord, packedWords, builtCounters}
@@ -84,9 +84,8 @@ count-free wrong s v i = AtMost.is (strip.rank s v i) (omega (arith, rank-le (ce
 place-free : (wrong : ℕ) (s : List ℕ) (v k : ℕ) → ((p : ℕ) → cell s p ≤ 1) → v ≤ 1 → k < strip.ofValue v (length s) (strip.totalOf s)
     → PlaceBelow wrong (length s) (found (strip.select s v k))
 place-free wrong s v k bits small there =
-    let w = select-exists (cell s) (length s) v k (omega (arith, there, total-number s v bits small)) in
-    subst (λ (o : Option ℕ). PlaceBelow wrong (length s) (found o)) (sym (w .1))
-    (PlaceBelow.is (w .0) (select-place (cell s) (length s) v k (w .0) (w .1) .below))
+    let w = value-found (cell s) (length s) v k (strip.totalOf s) bits small (total-ones s bits) there in
+    subst (λ (o : Option ℕ). PlaceBelow wrong (length s) (found o)) (sym (w .1)) (PlaceBelow.is (w .0) (w .2))
 
 -- a find on a row is below the length, or 6
 find-free : (wrong : ℕ) (s : List ℕ) (n v k : ℕ) → length s ≡ n → Below wrong n (found (strip.select s v k))

@@ -324,6 +324,17 @@ value-rank f v n small h = go (lt-or v 1)
         let o : 1 ≡ v = omega arith in
         value-one v n (ones f n) (sym o) ∙ sym (rank-ones f n small) ∙ ap (λ (w : ℕ). rankOf f w n) o
 
+module _ (f : ℕ → ℕ) (n v k x : ℕ) (bits : (p : ℕ) → f p ≤ 1) (small : v ≤ 1) (e : x ≡ ones f n) where
+  -- a k below it is found, at a position below n
+  pub value-found : k < ofValue v n x → (p : ℕ) × (selectOf f n v k ≡ some p) × (p < n)
+  value-found l =
+      let w = select-exists f n v k (omega (arith, ap (ofValue v n) e, value-rank f v n bits small)) in
+      (w .0, w .1, select-place f n v k (w .0) (w .1) .below)
+
+  -- no other is
+  pub value-absent : ofValue v n x ≤ k → selectOf f n v k ≡ none
+  value-absent l = select-none f n v k (omega (arith, ap (ofValue v n) e, value-rank f v n bits small))
+
 -- at most as many as there are bits
 pub value-le : (v n x : ℕ) → x ≤ n → ofValue v n x ≤ n
 value-le v n x h = go (eqb v 1)

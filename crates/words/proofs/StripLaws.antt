@@ -2,7 +2,6 @@
 use mathlib.Core.Path.{_≡_, refl, sym, ap, ap₂, _∙_}
 use mathlib.Core.Bool.{_&&_}
 use mathlib.Core.List.{List, []}
-use mathlib.Core.Option.{none}
 use mathlib.Core.Logic.{_⊎_, inl, inr}
 use Prim.Native.Nat.{ℕ, min, _≤_, _<_}
 use native.Mathlib.Nat.{le-refl}
@@ -10,11 +9,11 @@ use native.Mathlib.Omega.{arith}
 use lib.ListN.{length, List·getD-eq-default}
 use lib.Dec.{leb, eqb}
 use Rattle.words.specs.Bits.{bitAt, ones, listOf}
-use Rattle.words.specs.Strip.{cell, stripOf, rankOf, selectOf, successorOf, predecessorOf, rank, totalOf, ofValue, select, successor, predecessor}
+use Rattle.words.specs.Strip.{cell, stripOf, rankOf, selectOf, successorOf, predecessorOf, rank, totalOf, select, successor, predecessor}
 use Rattle.words.specs.Handles.{handle, handleOf}
 use Rattle.words.proofs.Sums.{lt-or, length-listOf, getD-listOf}
 use Rattle.words.proofs.WordLaws.{bitAt-le}
-use Rattle.words.proofs.SearchLaws.{least-ext, greatest-ext, rank-ext, rank-le, rank-ones, select-none, value-rank}
+use Rattle.words.proofs.SearchLaws.{least-ext, greatest-ext, rank-ext, rank-le, rank-ones}
 
 -- ---- the list of the cells f 0, f 1, .., f (n - 1)
 module _ (f : ℕ → ℕ) (n : ℕ) where
@@ -55,14 +54,9 @@ total-rank s n e = ap (rankOf (cell s) 1) (omega arith)
 pub total-le : (s : List ℕ) → totalOf s ≤ length s
 total-le s = omega (arith, rank-le (cell s) 1 (min (length s) (length s)))
 
--- with the length it gives the number of each value
-pub total-number : (s : List ℕ) (v : ℕ) → ((p : ℕ) → cell s p ≤ 1) → v ≤ 1 → ofValue v (length s) (totalOf s) ≡ rankOf (cell s) v (length s)
-total-number s v bits small =
-    ap (ofValue v (length s)) (total-rank s (length s) refl ∙ rank-ones (cell s) (length s) bits) ∙ value-rank (cell s) v (length s) bits small
-
--- so that none is found from there on
-pub total-absent : (s : List ℕ) (v k : ℕ) → ((p : ℕ) → cell s p ≤ 1) → v ≤ 1 → ofValue v (length s) (totalOf s) ≤ k → select s v k ≡ none
-total-absent s v k bits small l = select-none (cell s) (length s) v k (omega (arith, total-number s v bits small))
+-- of bits it is the ones
+pub total-ones : (s : List ℕ) → ((p : ℕ) → cell s p ≤ 1) → totalOf s ≡ ones (cell s) (length s)
+total-ones s bits = total-rank s (length s) refl ∙ rank-ones (cell s) (length s) bits
 
 -- the empty strip's total is 0
 pub total-none : totalOf [] ≡ 0

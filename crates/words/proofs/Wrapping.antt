@@ -1,9 +1,9 @@
--- Products modulo a number, made of sums modulo it; the number before another modulo it. Assumes nothing.
-use mathlib.Core.Path.{_≡_, sym, ap, _∙_}
+-- Products modulo a number, made of sums modulo it; differences modulo it that do not wrap. Assumes nothing.
+use mathlib.Core.Path.{_≡_, sym, ap, _∙_, subst}
 use mathlib.Core.Logic.{_⊎_, inl, inr}
-use Prim.Native.Nat.{ℕ, _+_, _*_, _/_, _%_, _≤_, _<_}
+use Prim.Native.Nat.{ℕ, _+_, _-_, _*_, _/_, _%_, _≤_, _<_}
 use native.Mathlib.Omega.{arith}
-use native.Mathlib.Nat.{add-mod-mod, mul-add-mod-self-right, add-mul, mul-add, mul-one, mul-assoc, mul-comm, div-add-mod', mod-eq-of-lt, mod-self}
+use native.Mathlib.Nat.{add-mod-mod, mul-add-mod-self-right, add-mul, mul-add, mul-one, mul-assoc, mul-comm, div-add-mod', mod-eq-of-lt, mod-eq-sub-mod, mod-le}
 use Rattle.words.proofs.Sums.{lt-or}
 
 -- a factor may be taken modulo m first
@@ -24,13 +24,12 @@ wrapping-step m x p y z q ey ez =
     ∙ mod-mul-mod (x * p) (1 + q) m
     ∙ ap (λ (t : ℕ). t % m) (mul-assoc x p (1 + q))
 
--- where the number after x is y modulo m, and y is not 0, it is y
-pub wrapping-next : (m x y : ℕ) → x < m → (x + 1) % m ≡ y → 1 ≤ y → x + 1 ≡ y
-wrapping-next m x y small e some = go (lt-or (x + 1) m)
+-- where r plus b is a modulo m, and a is not below b, it is a
+pub wrapping-exact : (m a b r : ℕ) → r < m → (r + b) % m ≡ a → b ≤ a → r + b ≡ a
+wrapping-exact m a b r small e l = go (lt-or (r + b) m)
   where
-    go : (x + 1 < m) ⊎ (m ≤ x + 1) → x + 1 ≡ y
-    go (inl l) = sym (mod-eq-of-lt l) ∙ e
-    go (inr l) =
-        let z : x + 1 ≡ m = omega arith in
-        let none : y ≡ 0 = sym e ∙ ap (λ (n : ℕ). n % m) z ∙ mod-self m in
+    go : (r + b < m) ⊎ (m ≤ r + b) → r + b ≡ a
+    go (inl h) = sym (mod-eq-of-lt h) ∙ e
+    go (inr h) =
+        let le : a ≤ r + b - m = subst (λ (n : ℕ). n ≤ r + b - m) (sym (mod-eq-sub-mod h) ∙ e) (mod-le (r + b - m) m) in
         absurd (omega arith)

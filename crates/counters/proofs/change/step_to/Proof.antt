@@ -8,7 +8,7 @@ use lib.Dec.{eqb}
 use borrow.Author.Needs.{needs}
 use borrow.Author.Tests.{eq-eqb, ne-eqb}
 use Rattle.words.proofs.Sums.{lt-or}
-use Rattle.words.proofs.Wrapping.{wrapping-next}
+use Rattle.words.proofs.Wrapping.{wrapping-exact}
 use Rattle.counters.proofs.change.step_to.Statement.{statement}
 use Rattle.counters.proofs.change.step_to.Tie as tie
 
@@ -27,7 +27,7 @@ step b r bit small e = go (lt-or b 1)
   where
     go : (b < 1) ⊎ (1 ≤ b) → r ≡ cond (eqb b 1) 1 (2 ^ 32 - 1)
     go (inl l) = let z : b ≡ 0 = omega arith in let d : r ≡ 2 ^ 32 - 1 = omega arith in d ∙ sym (simp (ne-eqb b 1 (λ o. omega arith)))
-    go (inr l) = let o : b ≡ 1 = omega arith in let d : r ≡ 1 = omega (arith, wrapping-next (2 ^ 32) r (2 * b) small e (omega arith)) in d ∙ sym (simp (eq-eqb b 1 o))
+    go (inr l) = let o : b ≡ 1 = omega arith in let d : r ≡ 1 = omega (arith, wrapping-exact (2 ^ 32) (2 * b) 1 r small e (omega arith)) in d ∙ sym (simp (eq-eqb b 1 o))
 
 returns : tie.Need-returns
 returns c = step (c .before .args .b) (c .wrapping-sub-u32 .result) (c .before .pre) (omega arith) (c .wrapping-sub-u32 .ensures)

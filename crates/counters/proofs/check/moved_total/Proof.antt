@@ -10,7 +10,7 @@ use borrow.Author.Tests.{eq-eqb, ne-eqb, le-leb, lt-leb, lt-ltb, le-ltb}
 use Rattle.words.specs.declared.handle.Handle.{Handle}
 use Rattle.words.specs.Handles.{mostBits}
 use Rattle.words.proofs.Sums.{lt-or}
-use Rattle.words.proofs.Wrapping.{wrapping-next}
+use Rattle.words.proofs.Wrapping.{wrapping-exact}
 use Rattle.counters.specs.Calls.{totalLine, turnedHandle}
 use Rattle.counters.proofs.check.moved_total.Statement.{statement}
 use Rattle.counters.proofs.check.moved_total.Tie as tie
@@ -28,11 +28,11 @@ wrapping-sub-u64-requires c κs = search needs
 module _ (h : Handle) (b r : ℕ) (held : h .total ≤ h .length) (most : h .length ≤ mostBits) (small : r < 2 ^ 64) (e : (r + 1) % 2 ^ 64 ≡ h .total + 2 * b) where
   -- a bit that becomes 1
   up : b ≡ 1 → r ≡ h .total + 1
-  up o = omega (arith, wrapping-next (2 ^ 64) r (h .total + 2 * b) small e (omega arith))
+  up o = omega (arith, wrapping-exact (2 ^ 64) (h .total + 2 * b) 1 r small e (omega arith))
 
   -- one that becomes 0, where there is a one
   down : b ≡ 0 → 1 ≤ h .total → r ≡ h .total - 1
-  down z some = omega (arith, wrapping-next (2 ^ 64) r (h .total + 2 * b) small e (omega arith))
+  down z some = omega (arith, wrapping-exact (2 ^ 64) (h .total + 2 * b) 1 r small e (omega arith))
 
   -- and where there is none
   under : b ≡ 0 → h .total ≡ 0 → r ≡ 2 ^ 64 - 1

@@ -1,9 +1,11 @@
 -- `counters::descent::left_after` meets its contract. Assumes nothing.
 use mathlib.Core.Path.{_≡_, ap}
+use Prim.Native.Nat.{_^_}
 use native.Mathlib.Nat.{mul-le-mul-left}
 use native.Mathlib.Omega.{arith}
 use borrow.Author.Needs.{needs}
-use Rattle.counters.proofs.SelectionLaws.{sub-exact, nth-valued}
+use Rattle.words.proofs.Wrapping.{wrapping-exact}
+use Rattle.counters.proofs.SelectionLaws.{nth-valued}
 use Rattle.counters.proofs.descent.left_after.Statement.{statement}
 use Rattle.counters.proofs.descent.left_after.Tie as tie
 
@@ -40,7 +42,7 @@ returns-2 c P h z l =
     let x = c .before .before .value-count in
     let r = c .wrapping-sub-u32 in
     let e : x .result ≡ P (s .index) = x .ensures (P (s .index)) (nth-valued P (s .v) (s .size) (s .from) (s .index) (s .counters .now) h (omega arith) (omega arith)) in
-    omega (arith, e, sub-exact (s .k) (x .result) (r .result) (omega arith) (r .ensures) (omega arith))
+    omega (arith, e, wrapping-exact (2 ^ 32) (s .k) (x .result) (r .result) (omega arith) (r .ensures) (omega arith))
 
 pub left-after-spec : {M : Type 1} → statement M
 left-after-spec =
