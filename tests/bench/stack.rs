@@ -1,5 +1,5 @@
-//! Calls from many places of the stack: the time of a function that keeps an array on its stack, as move_path does, depends
-//! on where in a cache line and in a page the stack lies.
+//! Calls from many places of the stack: the time of a function that keeps an array on its stack, as a turn does, depends on
+//! where in a cache line and in a page the stack lies.
 use std::hint::black_box;
 
 /// The places are spread over so many bytes.

@@ -1134,6 +1134,10 @@ static void largest_record(void)
     }
     image = lend(&image_memory, 16 + record_size(r.handle.length), at_end);
     settle();
+    strip_step(OP_RANK, 1, LARGEST, 0, OF_HANDLE(r.handle), WORDS_MUT(&r), COUNTERS_MUT(&r), lent_at(image, 1),
+               image.length, out, STRIP_OUT);
+    note(STEP, out[0]);
+    expect(STEP, out[1] == r.handle.total, "another count");
     clear();
     while (judged.count == 0)
         freeze(&r, 64);

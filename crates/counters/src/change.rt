@@ -102,7 +102,8 @@ pub fn flip(h: Handle, words: &mut [u64], counters: &mut [u32], i: usize) -> Cha
 
 // Zeroes the bits from n on and lays all counters; the ones that the words then hold are the total and the answer.
 fn rebuild(words: &mut [u64], counters: &mut [u32], capacity: usize, n: usize) -> Changed
-    requires { ⌜ (n ≤ capacity) × (capacity ≤ mostBits) × (capacity ≡ 512 * blocksOf capacity) × (length (now words) ≡ 8 * blocksOf capacity) × TreeOver (blocksOf capacity) (now counters) ⌝ }
+    requires { ⌜ (n ≤ capacity) × (capacity ≤ mostBits) × (capacity ≡ 512 * blocksOf capacity) × (length (now words) ≡ 8 * blocksOf capacity)
+        × TreeOver (blocksOf capacity) (now counters) ⌝ }
     ensures { λ r. ⌜ outcome (changedOf r) (now (words .exit)) (now (counters .exit)) ≡ relaid capacity (stripOf (now (words .entry)) n) ⌝ }
 {
     put_positions(words, n, capacity, 0);
