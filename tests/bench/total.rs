@@ -392,7 +392,7 @@ impl Bench {
         self.check();
     }
 
-    /// Rounds of all calls and columns, each from another place of the stack; prints the figures under their place.
+    /// Rounds of all calls and columns, from many places of the stack; prints the figures under their place.
     fn run(&mut self, at: &str, rounds: usize) {
         let mut figures = vec![vec![Vec::new(); COLUMNS.len()]; CALLS.len()];
         spread(rounds, |_| {

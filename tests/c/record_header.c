@@ -109,15 +109,18 @@ static void compare(void)
     REFUSAL(strip_record_pair_differ(&record, &o, 0), STRIP_UNEQUAL);
     REFUSAL(strip_record_pair_find(&record, &o, 9), STRIP_UNEQUAL);
     SPAN_REFUSAL(strip_record_pair_span(&record, &o, 1, 0), STRIP_UNEQUAL);
-    strip_record_push(&o, other[strlen(other) - 1] == '1');
 
-    /* each total is judged by its own record's length; a wrong one below it changes nothing */
+    /* each total is judged by its own record's length, 16 beside the other's 17; one not above it changes nothing */
     uint64_t total = strip_record_total(&o);
-    o.handle.total = 18;
-    REFUSAL(strip_record_pair_both(&record, &o, 17), STRIP_BAD_HANDLE);
-    SPAN_REFUSAL(strip_record_pair_span(&o, &record, 0, 17), STRIP_BAD_HANDLE);
+    o.handle.total = 17;
+    REFUSAL(strip_record_pair_both(&record, &o, 0), STRIP_BAD_HANDLE);
+    SPAN_REFUSAL(strip_record_pair_span(&o, &record, 0, 0), STRIP_BAD_HANDLE);
+    o.handle.total = total;
+    strip_record_push(&o, other[strlen(other) - 1] == '1');
+    total = strip_record_total(&o);
     o.handle.total = 17;
     VALUE(strip_record_pair_both(&record, &o, 17), 8);
+    VALUE(strip_record_pair_only_first(&o, &record, 17), 1);
     o.handle.total = total;
 
     VALUE(strip_record_pair_both(&record, &o, 17), 8);
@@ -160,15 +163,18 @@ static void wait_for_pressure(void)
         strip_record_push(&w, marks[p] == '1');
     COUNT_REFUSAL(strip_record_waiting_count(&record, &w, 18), STRIP_UNEQUAL);
     FIND_REFUSAL(strip_record_waiting_find(&record, &w, 99), STRIP_UNEQUAL);
-    strip_record_push(&w, marks[strlen(marks) - 1] == '1');
 
-    /* each total is judged by its own record's length; a wrong one below it changes nothing */
+    /* each total is judged by its own record's length, 16 beside the other's 17; one not above it changes nothing */
     uint64_t total = strip_record_total(&w);
-    w.handle.total = 18;
-    COUNT_REFUSAL(strip_record_waiting_count(&record, &w, 17), STRIP_BAD_HANDLE);
+    w.handle.total = 17;
+    COUNT_REFUSAL(strip_record_waiting_count(&record, &w, 0), STRIP_BAD_HANDLE);
     FIND_REFUSAL(strip_record_waiting_find(&w, &record, 0), STRIP_BAD_HANDLE);
+    w.handle.total = total;
+    strip_record_push(&w, marks[strlen(marks) - 1] == '1');
+    total = strip_record_total(&w);
     w.handle.total = 17;
     BETWEEN(strip_record_waiting_count(&record, &w, 17), 8, 12);
+    FROM_TO(strip_record_waiting_find(&record, &w, 0), 1, 1);
     w.handle.total = total;
 
     BETWEEN(strip_record_waiting_count(&record, &w, 0), 0, 0);

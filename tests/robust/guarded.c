@@ -346,7 +346,8 @@ static int told_out(enum call call, struct out o)
     return 1;
 }
 
-/* One change with drawn arguments, under a handle; the first of its positions. What create is lent is not set. */
+/* Makes one change with drawn arguments, under a handle, and answers the position or number of strokes that a turn, run
+ * or cut was given first. What create is lent is not set. */
 static uint64_t make_change(const struct record *r, enum call call, struct handle h, uint64_t v, struct out o)
 {
     uint64_t length = r->handle.length, i = position(length), k = one_in(2) ? i + below(200) : position(length);
@@ -366,14 +367,26 @@ static uint64_t make_change(const struct record *r, enum call call, struct handl
     return i;
 }
 
-/* The total that an accepted change leaves: by its values, or moved by one. */
-static uint64_t total_left(enum call call, uint64_t total, uint64_t v, uint64_t first_value)
+/* The handle that an accepted change leaves. */
+static struct handle handle_left(const struct record *r, enum call call, struct handle h, uint64_t v, uint64_t i)
 {
     switch (call) {
-    case CREATE: return 0;
-    case PUSH: return total + v;
-    case FLIP: return first_value == 1 ? total + 1 : total - 1;
-    default: return first_value;
+    case CREATE: return (struct handle){h.capacity, 0, 0};
+    case PUSH: return (struct handle){h.capacity, h.length + 1, h.total + v};
+    case FLIP: return (struct handle){h.capacity, h.length, bit(r->words.write, i) == 1 ? h.total + 1 : h.total - 1};
+    case FILL: return (struct handle){h.capacity, h.length, ones_of(r->words.write, r->words.length)};
+    default: return (struct handle){h.capacity, i, ones_of(r->words.write, r->words.length)};
+    }
+}
+
+/* The first value that an accepted change tells. */
+static uint64_t first_value(const struct record *r, enum call call, struct handle h, uint64_t i)
+{
+    switch (call) {
+    case CREATE: return r->counters.length / 4;
+    case PUSH: return h.length;
+    case FLIP: return bit(r->words.write, i);
+    default: return ones_of(r->words.write, r->words.length);
     }
 }
 
@@ -396,8 +409,9 @@ static void change(struct record *r, enum call call)
     i = make_change(r, call, h, v, o);
     if (told_out(call, o) && out[0] == 0) {
         expect(call, all_set(r->words) && all_set(r->counters), "left a number unset");
-        expect(call, out[3] == h.capacity && out[4] <= h.capacity && out[5] <= out[4], "a wrong handle given back");
-        expect(call, out[5] == total_left(call, h.total, v, out[1]), "a wrong total given back");
+        expect(call, same_handle(handle_told(out), handle_left(r, call, h, v, i)), "a wrong handle given back");
+        expect(call, out[5] <= out[4] && out[4] <= out[3], "a handle that is not good given back");
+        expect(call, out[1] == first_value(r, call, h, i), "another first value");
         r->handle = handle_told(out);
         return;
     }
@@ -1113,7 +1127,7 @@ static void execute(struct record *r)
 
 /* ---- the largest */
 
-/* A record of the largest capacity, frozen into an image that it fills. */
+/* A record of the largest capacity, counted by a step too, and frozen into an image that it fills. */
 static void largest_record(void)
 {
     struct record r = {{LARGEST, LARGEST, 0}, {0}, {0}};
@@ -1125,6 +1139,9 @@ static void largest_record(void)
     note(TRUNCATE, out[0]);
     r.handle = handle_told(out);
     expect(TRUNCATE, out[1] == LARGEST / 2 && out[5] == LARGEST / 2, "another number of ones");
+    strip_step(OP_RANK, 1, LARGEST, 0, OF_HANDLE(r.handle), WORDS_MUT(&r), COUNTERS_MUT(&r), NULL, 0, out, STRIP_OUT);
+    note(STEP, out[0]);
+    expect(STEP, out[1] == LARGEST / 2, "another count");
     uint64_t last = told(SELECT, strip_select(OF_HANDLE(r.handle), WORDS(&r), COUNTERS(&r), 1, LARGEST / 2 - 1));
     expect(SELECT, last == LARGEST - 2, "another position");
     for (unsigned k = 0; k < 6; k++) {
@@ -1134,10 +1151,6 @@ static void largest_record(void)
     }
     image = lend(&image_memory, 16 + record_size(r.handle.length), at_end);
     settle();
-    strip_step(OP_RANK, 1, LARGEST, 0, OF_HANDLE(r.handle), WORDS_MUT(&r), COUNTERS_MUT(&r), lent_at(image, 1),
-               image.length, out, STRIP_OUT);
-    note(STEP, out[0]);
-    expect(STEP, out[1] == r.handle.total, "another count");
     clear();
     while (judged.count == 0)
         freeze(&r, 64);

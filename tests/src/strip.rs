@@ -59,7 +59,8 @@ impl Strip {
         &self.bits[..self.handle.length as usize]
     }
 
-    /// A strip with faults: its handle bad in the way that `handle` numbers, its words too few, too many or none.
+    /// A strip with faults: its handle bad in the way that `handle` numbers, or good; its words too few, too many or none, as
+    /// `words` numbers, or right. All its bits are `bit`.
     pub fn faulty(good: Handle, handle: Option<usize>, words: Option<usize>, bit: bool) -> Strip {
         let Handle { capacity: c, length: n, total: t } = good;
         let list = [

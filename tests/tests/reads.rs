@@ -1,7 +1,7 @@
 //! Which words freeze, the search for a burst and the calls on two strips read, a strip's waiting strip being the second of
-//! two: of each strip those that hold what is asked for, and no other; and that find's 6 on one strip reads nothing. The others
-//! are lent in closed pages. A call that reads one of them, or writes any, is not told as a failed test: a signal ends the
-//! process of this file, and `--test-threads=1` shows in which test.
+//! two: of each strip those that hold what is asked for, and no other. Find's 6 on one strip reads no word and no counter. What
+//! is not to be read is lent in closed pages. A call that reads one of them, or writes any, is not told as a failed test: a
+//! signal ends the process of this file, and `--test-threads=1` shows in which test.
 use std::fmt::Debug;
 use std::ops::Range;
 use strip_tests::borders::{beside, FAR, WIDE, WIDEST};

@@ -30,7 +30,7 @@ leaving r x y = outcome (done (r .handle) x y) (r .words) (r .counters)
 abbrev pub rebuilt : ℕ → List ℕ → ℕ → ℕ → Outcome ChangedTold
 rebuilt c s x y = leaving (builtRecord c s) x y
 
--- .. and answers the total, the ones held
+-- .. with its total, the ones held, for the first answer and 0 for the second
 abbrev pub relaid : ℕ → List ℕ → Outcome ChangedTold
 relaid c s = rebuilt c s (totalOf s) 0
 
