@@ -5,7 +5,7 @@ use lib.Arith.{lt-one, digits_mod}
 use lib.Pow.{field, mod-mod-pow, high, ones_lt, ones_split, high_ones}
 use lib.Bits.{bit_and, bit_or, bit_xor, differ, and_mask, and_shr, and_step, or_shr, or_step, xor_shr, xor_step, xor_add_and}
 use lib.Count as C
-use Rattle.words.specs.Bits.{bit, sum_to, ones}
+use Rattle.words.specs.Bits.{bit, ones}
 use Rattle.words.proofs.Sums as S
 
 pub bit_lt : (x p : ℕ) → bit x p < 2

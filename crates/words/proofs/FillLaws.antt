@@ -4,7 +4,7 @@ use Rattle.std.proofs.Common.{◌≡◌, ℕ, ◌+◌, ◌-◌, ◌*◌, ◌/◌
 use native.Mathlib.Decide.{ℕ_discrete}
 use lib.Seq.{drop-length}
 use borrow.Author.Fill.{fill_none, fill_more}
-use Rattle.words.specs.Bits.{bit, bit_at, ones}
+use Rattle.words.specs.Bits.{bit, bit_at}
 use Rattle.words.specs.Working.{WordPut, RangePut}
 use Rattle.words.proofs.Sums.{lt_or}
 use Rattle.words.proofs.WordLaws.{word_bit}

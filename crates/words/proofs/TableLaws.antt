@@ -1,5 +1,5 @@
 -- The table of select in a byte: its rule as one test over all bytes and ranks, which antt computes for the source's numbers. Assumes nothing.
-use Rattle.std.proofs.Common.{◌≡◌, ℕ, zero, suc, ◌+◌, ◌*◌, ◌/◌, ◌%◌, ◌<◌, ◌≤◌, Bool, true, ◌&&◌, eqb, List, length, get_or, take, drop, sym, refl, ap, ◌∙◌, zero-le, le_of_suc-le-suc, not-suc-le-zero, arith, eqb-true}
+use Rattle.std.proofs.Common.{◌≡◌, ℕ, zero, suc, ◌+◌, ◌*◌, ◌/◌, ◌%◌, ◌<◌, ◌≤◌, Bool, true, ◌&&◌, eqb, List, length, get_or, take, drop, sym, ap, ◌∙◌, zero-le, le_of_suc-le-suc, not-suc-le-zero, arith, eqb-true}
 use lib.Arith.{lt_of_le-ne}
 use Rattle.words.specs.Bits.{sum_to}
 use Rattle.words.specs.Strip.{least}

@@ -11,7 +11,7 @@ pub const BLOCK_BITS: usize = 512;
 pub const MOST_BITS: usize = 134217728;
 
 // A strip's capacity, length and total, its number of ones. The words lie with the caller.
-#[derive(Drop)]
+#[derive(Clone, Copy)]
 pub struct Handle {
     pub capacity: usize,
     pub length: usize,

@@ -1,4 +1,6 @@
 // The word layer: the handle, refusals and answers, and the calls on words alone.
+#![tactic(auto)]
+
 mod bits;
 mod block;
 mod fill;
