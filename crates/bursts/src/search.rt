@@ -11,7 +11,7 @@ use super::window::{
 use words::{ones_of, span_ones};
 
 // What a search over whole words gives: the first start that serves, or the end of these words; in that case also the ones of the window that starts there.
-#[derive(Drop)]
+#[derive(Clone, Copy)]
 pub struct Search {
     pub start: usize,
     pub count: usize,

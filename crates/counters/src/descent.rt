@@ -8,7 +8,7 @@ use super::shape::{CHILDREN, Level, NODE_COUNTERS, height_of, parents, wide};
 use words::{BLOCK_BITS, block_select};
 
 // Where a search stands: in which child or block, and how many v of it to pass.
-#[derive(Drop)]
+#[derive(Clone, Copy)]
 struct Spot {
     index: usize,
     left: u32,

@@ -36,7 +36,7 @@ pub fn parents(count: usize) -> usize
 }
 
 // A level: the number of its nodes, and where its counters start. The blocks are level 0, which starts where the counters end.
-#[derive(Drop)]
+#[derive(Clone, Copy)]
 pub struct Level {
     pub count: usize,
     pub start: usize,
@@ -56,7 +56,7 @@ pub fn above(level: Level) -> Level
 
 // Where a climb from a block to the root stands: a level, the node on the way, where its counters start, and the slot of the child that it came from. At a
 // block the last two mean nothing.
-#[derive(Drop)]
+#[derive(Clone, Copy)]
 pub struct Climb {
     pub level: Level,
     pub node: usize,

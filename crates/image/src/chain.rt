@@ -10,7 +10,7 @@ use super::layout::{
 };
 
 // What one walk of the chain tells: where the index that ends it stands, where its last record ends, and where the label's record starts, 0 for none.
-#[derive(Drop)]
+#[derive(Clone, Copy)]
 pub enum Scan {
     Unsound,
     Sound {

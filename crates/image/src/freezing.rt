@@ -12,7 +12,7 @@ use super::write::write_record;
 use words::{Answer, Handle, Refusal, UNTAKEN, Verdict, check_strip};
 
 // Where a new record starts, and where the index that ends the chain stands; or a refusal.
-#[derive(Drop)]
+#[derive(Clone, Copy)]
 pub enum Place {
     At { link: usize, start: usize },
     Refused(Refusal),

@@ -119,7 +119,7 @@ fn put_superblock(
 }
 
 // An entry as two words, the low one first.
-#[derive(Drop)]
+#[derive(Clone, Copy)]
 pub struct Halves {
     pub low: u64,
     pub high: u64,
@@ -145,7 +145,7 @@ pub fn entry_halves(before: usize, counts: [usize; SUPERBLOCK_BLOCKS]) -> Halves
 }
 
 // Where a superblock goes: its entry from byte `entry` on, its bits from byte `bits` on. `before` ones lie before it.
-#[derive(Drop)]
+#[derive(Clone, Copy)]
 pub struct Target {
     pub entry: usize,
     pub bits: usize,

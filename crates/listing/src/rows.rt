@@ -21,7 +21,7 @@ pub const LINE_BYTES: usize = 23;
 pub const TEXT_BYTES: usize = MOST_LABEL * LINE_BYTES;
 
 // What was written: so many bytes, or nothing into a buffer too short for the longest text.
-#[derive(Drop)]
+#[derive(Clone, Copy)]
 pub enum Listed {
     Short,
     Written(usize),

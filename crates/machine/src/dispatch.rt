@@ -11,7 +11,7 @@ use image::{clear, freeze, inspect, row_get, row_rank, row_select};
 use words::{Answer, Handle, get, number, predecessor, successor};
 
 // A call's answer in numbers: refusal or 0, and two values; with the handle in use after it.
-#[derive(Drop)]
+#[derive(Clone, Copy)]
 pub struct Reply {
     pub handle: Handle,
     pub refusal: u64,

@@ -73,7 +73,7 @@ pub fn rows_conflict(first: &[u8], places: &[usize], second: &[u8]) -> bool
 }
 
 // So many rows, and the bytes of their records.
-#[derive(Drop)]
+#[derive(Clone, Copy)]
 pub struct Extent {
     pub rows: u64,
     pub bytes: usize,

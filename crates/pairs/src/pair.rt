@@ -9,7 +9,7 @@ use super::scan::{joined_ones, joined_place};
 use words::{Answer, Handle, Refusal, UNTAKEN, Verdict, check_strip, number, span_ones};
 
 // What a span answers: a signed number, or its refusal.
-#[derive(Drop)]
+#[derive(Clone, Copy)]
 pub enum Spanned {
     Value(i64),
     Refused(Refusal),

@@ -3,7 +3,7 @@ ghost use Rattle.pairs.specs.Rules.{rule_of};
 ghost use Rattle.pairs.specs.Working.{JoinedWord};
 
 // Which strokes a count or a find takes: those that the rule marks, giving 1.
-#[derive(Drop)]
+#[derive(Clone, Copy)]
 pub enum Rule {
     // those that both strips mark
     Both,

@@ -10,7 +10,7 @@ use super::rule::{Rule, join};
 use words::{low_mask, ones_of, select_in_word};
 
 // Where a search stands: before this word, with so many ones left to pass before the one sought.
-#[derive(Drop)]
+#[derive(Clone, Copy)]
 pub struct Search {
     pub word: usize,
     pub left: usize,

@@ -8,14 +8,14 @@ use pairs::{Rule, join, joined_place, words_passed};
 use words::{low_mask, ones_of, select_in_word};
 
 // The least and the most of a count.
-#[derive(Drop)]
+#[derive(Clone, Copy)]
 pub struct Counts {
     pub least: usize,
     pub most: usize,
 }
 
 // Where a search stands: before this word, with so many misfires left to pass before the one sought, of those that may be and of those that must be.
-#[derive(Drop)]
+#[derive(Clone, Copy)]
 pub struct Search {
     pub word: usize,
     pub may: usize,
@@ -23,7 +23,7 @@ pub struct Search {
 }
 
 // The earliest and the latest position of a find, each the end of the words where there is none.
-#[derive(Drop)]
+#[derive(Clone, Copy)]
 pub struct Places {
     pub earliest: usize,
     pub latest: usize,

@@ -6,14 +6,14 @@ use pairs::{check_pair, check_pair_within};
 use words::{Handle, Refusal, Verdict};
 
 // What a count over all outcomes answers: the least and the most, or its refusal.
-#[derive(Drop)]
+#[derive(Clone, Copy)]
 pub enum RankAnswer {
     LeastMost(u64, u64),
     Refused(Refusal),
 }
 
 // What a find over all outcomes answers.
-#[derive(Drop)]
+#[derive(Clone, Copy)]
 pub enum SelectAnswer {
     // from the earliest to the latest position: every outcome has such a stroke
     FromTo(u64, u64),

@@ -3,7 +3,7 @@ ghost use Rattle.std.specs.Prelude.{◌≡◌, ◌<◌};
 ghost use Rattle.words.specs.Refusals.{number_of, told_of, coded as coded_of};
 
 // Why a call is refused, in the order of the numbers 1 to 18.
-#[derive(Drop)]
+#[derive(Clone, Copy)]
 pub enum Refusal {
     // capacity not allowed, length above capacity, or total above length
     BadHandle,
@@ -44,14 +44,14 @@ pub enum Refusal {
 }
 
 // What a call's checks say.
-#[derive(Drop)]
+#[derive(Clone, Copy)]
 pub enum Verdict {
     Pass,
     Refuse(Refusal),
 }
 
 // What a call answers that changes no strip: a value, or its refusal.
-#[derive(Drop)]
+#[derive(Clone, Copy)]
 pub enum Answer {
     Value(u64),
     Refused(Refusal),
