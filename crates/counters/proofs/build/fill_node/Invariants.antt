@@ -1,0 +1,7 @@
+-- `counters::build::fill_node` meets its contract. The invariant: the groups before g are laid. Assumes nothing.
+use Rattle.std.proofs.Common.{ℕ, ◌+◌, ◌-◌, ◌*◌, ◌≤◌, arith, length-set, rules}
+use Rattle.counters.proofs.BuildLaws.{Groups, groups_none, groups_more, groups_done}
+use Rattle.counters.proofs.build.fill_node.Given as goal
+
+abbrev pub invariant-loop-g : goal.invariant-loop-g
+invariant-loop-g l = (l.g ≤ 8) × Groups l.children l.node l.g l.sum

@@ -1,0 +1,12 @@
+-- `counters::fit::node_fits` meets its contract. Assumes nothing.
+use Rattle.std.proofs.Common.{ℕ, ◌+◌, ◌-◌, ◌*◌, arith, rules}
+use Rattle.counters.proofs.BuildLaws.{node_compared}
+use Rattle.counters.proofs.fit.node_fits.Goals as goal
+
+pub returns : goal.returns
+returns c =
+    let s = c.args in
+    let call = c.fill_node in
+    let a : ℕ = s.at + 72 * s.j in
+    node_compared c.same.result s.children s.counters.now call.new.node s.at s.j (a + 72 - a) (omega arith) call.ensures
+    c.same.ensures

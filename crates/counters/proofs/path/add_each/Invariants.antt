@@ -1,0 +1,7 @@
+-- `counters::path::add_each` meets its contract. The invariant: the numbers before i have their steps added. Assumes nothing.
+use Rattle.std.proofs.Common.{◌-◌, ◌≤◌, arith, rules}
+use Rattle.counters.proofs.PathLaws.{Lanes, lanes_none, lanes_more}
+use Rattle.counters.proofs.path.add_each.Given as goal
+
+abbrev pub invariant-loop-i : goal.invariant-loop-i
+invariant-loop-i l = (l.i ≤ 8) × (Lanes l.steps l.initial.lanes l.i l.lanes)
