@@ -4,7 +4,6 @@ use Rattle.std.proofs.Common.{◌≡◌, ℕ, zero, suc, ◌+◌, ◌-◌, ◌*�
 use native.Mathlib.Nat.{div-div-eq-div-mul, add-mul-div_left}
 use borrow.Author.Tests.{lt-leb}
 use Rattle.words.specs.Bits.{ones}
-use Rattle.words.specs.Strip.{least}
 use Rattle.words.proofs.Sums.{lt_or, sum_zero, sum_suc, sum_split, sum_mono, sum_none}
 use Rattle.counters.specs.declared.shape.Level.{Level}
 use Rattle.counters.specs.declared.shape.Climb.{Climb}

@@ -1,5 +1,5 @@
 -- The calls over words and counters: their refusals in order, and their outcomes. Assumes nothing.
-use Rattle.std.specs.Prelude.{ℕ, ◌+◌, ◌-◌, Bool, cond, not, ◌&&◌, leb, List, [], ◌∷◌, ◌++◌, length, take, set, ◌==◌, nat_le, nat_lt, slice_set}
+use Rattle.std.specs.Prelude.{ℕ, ◌+◌, ◌-◌, Bool, cond, not, ◌&&◌, leb, List, [], ◌∷◌, ◌++◌, length, take, ◌==◌, nat_le, nat_lt, slice_set}
 use Rattle.words.specs.declared.handle.Handle.{Handle}
 use Rattle.words.specs.Bits.{list_of, same}
 use Rattle.words.specs.Strip.{cell, strip_of, rank, total_of, of_value, select}

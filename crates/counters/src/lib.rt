@@ -1,4 +1,6 @@
 // The counter layer: the tree of counters, and the calls over words and counters.
+#![tactic(auto)]
+
 mod answer;
 mod ascent;
 mod build;

@@ -1,5 +1,5 @@
 -- `counters::ascent::before_child` meets its contract: child c starts its group of eight, or it does not. Assumes nothing.
-use Rattle.std.proofs.Common.{ℕ, ◌+◌, ◌*◌, ap, ◌∙◌, ap₂, arith, rules}
+use Rattle.std.proofs.Common.{ℕ, ◌+◌, ◌*◌, ap, ◌∙◌, ap₂, arith}
 use Rattle.counters.proofs.RankLaws.{before_group, before_key}
 use Rattle.counters.proofs.ascent.before_child.Goals as goal
 

@@ -1,5 +1,5 @@
 -- `counters::ascent::ones_before` meets its contract: the ones before a block, and those of the block before position i. Assumes nothing.
-use Rattle.std.proofs.Common.{◌≡◌, ℕ, ◌+◌, ◌-◌, ◌*◌, ◌/◌, ◌≤◌, List, take, drop, sym, ap, ◌∙◌, arith, rules}
+use Rattle.std.proofs.Common.{◌≡◌, ℕ, ◌+◌, ◌-◌, ◌*◌, ◌/◌, ◌≤◌, List, take, drop, sym, ap, ◌∙◌, arith}
 use Rattle.words.specs.Bits.{bit_at, ones}
 use Rattle.words.proofs.Sums.{sum_zero, ones_le}
 use Rattle.words.proofs.WordLaws.{bit_at_le}

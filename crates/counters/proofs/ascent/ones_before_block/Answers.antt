@@ -1,5 +1,5 @@
 -- `counters::ascent::ones_before_block` meets its contract. The invariant is `Climbed` after t levels. Assumes nothing.
-use Rattle.std.proofs.Common.{◌≡◌, ◌+◌, ◌-◌, ◌<◌, ◌≤◌, length, ◌∙◌, arith, rules}
+use Rattle.std.proofs.Common.{◌≡◌, ◌+◌, ◌-◌, ◌<◌, ◌≤◌, length, ◌∙◌, arith}
 use Rattle.counters.specs.Tree.{height}
 use Rattle.counters.proofs.TreeLaws.{height_le, climb_block, climb_ready, climb_room}
 use Rattle.counters.proofs.RankLaws.{Climbed, climbed_none, climbed_more, climbed_done}
@@ -58,7 +58,7 @@ next c higher =
     (omega arith) x.ensures.1
 
 pub overflow_add-sum : goal.overflow_add-sum
-overflow_add-sum c =     omega (arith, (next (goal.at.overflow_add-sum c).After-before_child-sum (higher (goal.at.overflow_add-sum c).In-loop-t)).small, higher (goal.at.overflow_add-sum c).In-loop-t, height_le c.args.blocks)
+overflow_add-sum c = omega (arith, (next (goal.at.overflow_add-sum c).After-before_child-sum (higher (goal.at.overflow_add-sum c).In-loop-t)).small, higher (goal.at.overflow_add-sum c).In-loop-t, height_le c.args.blocks)
 
 pub overflow_step-t : goal.overflow_step-t
 overflow_step-t c = omega (arith, higher (goal.at.overflow_step-t c).In-loop-t, height_le c.args.blocks)

@@ -1,14 +1,14 @@
 -- `counters::build::build_counters` meets its contract. The invariant: the levels 1 to t are laid. Assumes nothing.
-use Rattle.std.proofs.Common.{◌≡◌, ◌-◌, ◌<◌, arith, rules}
+use Rattle.std.proofs.Common.{◌<◌, arith}
 use Rattle.words.specs.Bits.{bit_at}
 use Rattle.counters.specs.Tree.{height}
 use Rattle.counters.proofs.TreeLaws.{height_le}
-use Rattle.counters.proofs.BuildLaws.{Upto, upto_none, upto_bits, upto_room, upto_next, upto_more, upto_all}
+use Rattle.counters.proofs.BuildLaws.{upto_none, upto_bits, upto_room, upto_next, upto_more, upto_all}
 use Rattle.counters.proofs.build.build_counters.Goals as goal
 use Rattle.counters.proofs.build.build_counters.Goals.{In-loop-t}
 
 pub loop-t-init : goal.loop-t-init
-loop-t-init c =     (c.height_of-levels.ensures, upto_none c.args.words.now c.args.blocks c.args.counters.now c.requires.0 c.requires.1)
+loop-t-init c = (c.height_of-levels.ensures, upto_none c.args.words.now c.args.blocks c.args.counters.now c.requires.0 c.requires.1)
 
 -- there is a next level
 more : (c : In-loop-t) → c.loop-t.t < height c.args.blocks
@@ -19,7 +19,7 @@ pub above-level-requires : goal.above-level-requires
 above-level-requires c = upto_room c.loop-t.invariant.1 (more (goal.at.above-level-requires c).In-loop-t)
 
 pub build_level-requires : goal.build_level-requires
-build_level-requires c =     upto_next c.loop-t.invariant.1 (more (goal.at.build_level-requires c).In-loop-t) c.above-level.ensures
+build_level-requires c = upto_next c.loop-t.invariant.1 (more (goal.at.build_level-requires c).In-loop-t) c.above-level.ensures
 
 pub overflow_step-t : goal.overflow_step-t
 overflow_step-t c = omega (arith, height_le c.args.blocks)

@@ -1,9 +1,7 @@
 -- `counters::build::build_counters` meets its contract. The invariant: the levels 1 to t are laid. Assumes nothing.
-use Rattle.std.proofs.Common.{◌≡◌, ◌-◌, ◌<◌, arith, rules}
-use Rattle.words.specs.Bits.{bit_at}
+use Rattle.std.proofs.Common.{◌≡◌}
 use Rattle.counters.specs.Tree.{height}
-use Rattle.counters.proofs.TreeLaws.{height_le}
-use Rattle.counters.proofs.BuildLaws.{Upto, upto_none, upto_bits, upto_room, upto_next, upto_more, upto_all}
+use Rattle.counters.proofs.BuildLaws.{Upto}
 use Rattle.counters.proofs.build.build_counters.Given as goal
 
 abbrev pub invariant-loop-t : goal.invariant-loop-t

@@ -1,7 +1,6 @@
 -- `counters::build::build_level` meets its contract. The invariant: the nodes before j are laid, and what stands past the level stays. Assumes nothing.
-use Rattle.std.proofs.Common.{◌≡◌, ℕ, ◌-◌, ◌≤◌, length, get_or, refl, ◌∙◌, arith}
+use Rattle.std.proofs.Common.{◌≡◌, ℕ, ◌≤◌, length, get_or}
 use Rattle.counters.specs.Building.{child_holds, LevelFrom}
-use Rattle.counters.proofs.BuildLaws.{children_same, readable_same, children_length, level_none, level_built, level_keeps}
 use Rattle.counters.proofs.build.build_level.Given as goal
 
 abbrev pub invariant-loop-j : goal.invariant-loop-j

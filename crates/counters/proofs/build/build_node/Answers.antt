@@ -1,5 +1,5 @@
 -- `counters::build::build_node` meets its contract. Assumes nothing.
-use Rattle.std.proofs.Common.{ℕ, ◌+◌, ◌-◌, ◌*◌, arith, rules}
+use Rattle.std.proofs.Common.{ℕ, ◌+◌, ◌-◌, ◌*◌, arith}
 use Rattle.counters.proofs.BuildLaws.{node_built}
 use Rattle.counters.proofs.build.build_node.Goals as goal
 

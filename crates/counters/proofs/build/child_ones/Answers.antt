@@ -1,15 +1,15 @@
 -- `counters::build::child_ones` meets its contract. Assumes nothing.
-use Rattle.std.proofs.Common.{◌≡◌, ℕ, ◌+◌, ◌-◌, ◌*◌, ◌%◌, ◌^◌, ◌≤◌, length, ap, ◌∙◌, arith, rules}
+use Rattle.std.proofs.Common.{◌≡◌, ℕ, ◌+◌, ◌-◌, ◌*◌, ◌%◌, ◌^◌, ◌≤◌, length, ap, ◌∙◌, arith}
 use Rattle.counters.specs.Building.{child_holds}
 use Rattle.counters.proofs.BuildLaws.{child_past, child_block, child_above, child_block_le}
 use Rattle.counters.proofs.build.child_ones.Goals as goal
 use Rattle.counters.proofs.build.child_ones.Goals.{After-block_ones, After-struct_known-2-1}
 
 pub returns-then-below-m : goal.returns-then-below-m
-returns-then-below-m c =     child_past c.args.words.now c.args.counters.now c.args.t c.args.below c.args.m c.requires c.if-below-m.true
+returns-then-below-m c = child_past c.args.words.now c.args.counters.now c.args.t c.args.below c.args.m c.requires c.if-below-m.true
 
 pub slice_bounds-block_ones-end : goal.slice_bounds-block_ones-end
-slice_bounds-block_ones-end c =     omega (arith, c.requires.blocks c.if-t-eq0.true)
+slice_bounds-block_ones-end c = omega (arith, c.requires.blocks c.if-t-eq0.true)
 
 -- the result is what the block holds
 held : (c : After-block_ones)

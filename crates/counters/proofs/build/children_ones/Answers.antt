@@ -1,5 +1,5 @@
 -- `counters::build::children_ones` meets its contract. The invariant: the elements below c hold the ones of their children. Assumes nothing.
-use Rattle.std.proofs.Common.{◌≡◌, ℕ, ◌+◌, ◌-◌, ◌*◌, ◌<◌, ◌≤◌, length, get_or, refl, arith, length-set}
+use Rattle.std.proofs.Common.{ℕ, ◌+◌, ◌*◌, refl, arith, length-set}
 use Rattle.words.proofs.Sums.{stored_more}
 use Rattle.counters.specs.Building.{child_holds}
 use Rattle.counters.proofs.BuildLaws.{children_are}

@@ -1,8 +1,6 @@
 -- `counters::build::children_ones` meets its contract. The invariant: the elements below c hold the ones of their children. Assumes nothing.
-use Rattle.std.proofs.Common.{◌≡◌, ℕ, ◌+◌, ◌-◌, ◌*◌, ◌<◌, ◌≤◌, length, get_or, refl, arith, length-set}
-use Rattle.words.proofs.Sums.{stored_more}
+use Rattle.std.proofs.Common.{◌≡◌, ℕ, ◌+◌, ◌*◌, ◌<◌, ◌≤◌, length, get_or}
 use Rattle.counters.specs.Building.{child_holds}
-use Rattle.counters.proofs.BuildLaws.{children_are}
 use Rattle.counters.proofs.build.children_ones.Given as goal
 
 abbrev pub invariant-loop-c : goal.invariant-loop-c

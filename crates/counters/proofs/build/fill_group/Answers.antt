@@ -1,12 +1,12 @@
 -- `counters::build::fill_group` meets its contract. The invariant: `sum` is the sum of the children below i, and the keys below i hold theirs.
 -- Assumes nothing.
-use Rattle.std.proofs.Common.{◌≡◌, ℕ, ◌+◌, ◌-◌, ◌%◌, ◌^◌, ◌<◌, ◌≤◌, length, get_or, sym, ap, ◌∙◌, arith, length-set, rules}
+use Rattle.std.proofs.Common.{◌≡◌, ℕ, ◌+◌, ◌%◌, ◌^◌, get_or, sym, ap, ◌∙◌, arith, length-set}
 use Rattle.words.proofs.Sums.{sum_zero, stored_more}
 use Rattle.counters.proofs.BuildLaws.{sums, sums_more}
 use Rattle.counters.proofs.build.fill_group.Goals as goal
 
 pub loop-i-init : goal.loop-i-init
-loop-i-init c =     (c.requires.0, omega arith, sym (ap (λ (n : ℕ). n % 2 ^ 32) (sum_zero (λ m. get_or c.args.children.now m 0))), λ d l. absurd (omega arith))
+loop-i-init c = (c.requires.0, omega arith, sym (ap (λ (n : ℕ). n % 2 ^ 32) (sum_zero (λ m. get_or c.args.children.now m 0))), λ d l. absurd (omega arith))
 
 pub offset_bounds-children-i : goal.offset_bounds-children-i
 offset_bounds-children-i c = omega arith

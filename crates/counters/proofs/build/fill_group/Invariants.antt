@@ -1,8 +1,7 @@
 -- `counters::build::fill_group` meets its contract. The invariant: `sum` is the sum of the children below i, and the keys below i hold theirs.
 -- Assumes nothing.
-use Rattle.std.proofs.Common.{◌≡◌, ℕ, ◌+◌, ◌-◌, ◌%◌, ◌^◌, ◌<◌, ◌≤◌, length, get_or, sym, ap, ◌∙◌, arith, length-set, rules}
-use Rattle.words.proofs.Sums.{sum_zero, stored_more}
-use Rattle.counters.proofs.BuildLaws.{sums, sums_more}
+use Rattle.std.proofs.Common.{◌≡◌, ℕ, ◌+◌, ◌%◌, ◌^◌, ◌<◌, ◌≤◌, length, get_or}
+use Rattle.counters.proofs.BuildLaws.{sums}
 use Rattle.counters.proofs.build.fill_group.Given as goal
 
 abbrev pub invariant-loop-i : goal.invariant-loop-i

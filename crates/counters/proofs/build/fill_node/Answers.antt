@@ -1,10 +1,10 @@
 -- `counters::build::fill_node` meets its contract. The invariant: the groups before g are laid. Assumes nothing.
-use Rattle.std.proofs.Common.{ℕ, ◌+◌, ◌-◌, ◌*◌, ◌≤◌, arith, length-set, rules}
-use Rattle.counters.proofs.BuildLaws.{Groups, groups_none, groups_more, groups_done}
+use Rattle.std.proofs.Common.{ℕ, ◌+◌, ◌-◌, ◌*◌, arith, length-set}
+use Rattle.counters.proofs.BuildLaws.{groups_none, groups_more, groups_done}
 use Rattle.counters.proofs.build.fill_node.Goals as goal
 
 pub loop-g-init : goal.loop-g-init
-loop-g-init c =     (omega arith, groups_none c.args.children c.args.node.now c.requires.0)
+loop-g-init c = (omega arith, groups_none c.args.children c.args.node.now c.requires.0)
 
 pub offset_bounds-node-g : goal.offset_bounds-node-g
 offset_bounds-node-g c = omega arith

@@ -1,6 +1,6 @@
 -- `counters::build::fill_node` meets its contract. The invariant: the groups before g are laid. Assumes nothing.
-use Rattle.std.proofs.Common.{ℕ, ◌+◌, ◌-◌, ◌*◌, ◌≤◌, arith, length-set, rules}
-use Rattle.counters.proofs.BuildLaws.{Groups, groups_none, groups_more, groups_done}
+use Rattle.std.proofs.Common.{◌≤◌}
+use Rattle.counters.proofs.BuildLaws.{Groups}
 use Rattle.counters.proofs.build.fill_node.Given as goal
 
 abbrev pub invariant-loop-g : goal.invariant-loop-g

@@ -1,5 +1,5 @@
 -- `counters::change::fill` meets its contract. Assumes nothing.
-use Rattle.std.proofs.Common.{◌≤◌, [], ◌∷◌, length, ap, ◌∙◌, arith, rules, ltb-false}
+use Rattle.std.proofs.Common.{◌≤◌, [], ◌∷◌, length, ap, ◌∙◌, arith, ltb-false}
 use Rattle.words.specs.Calls.{value_line, within_line, span_line}
 use Rattle.words.proofs.CheckLaws.{unless_refused, unless_passed}
 use Rattle.counters.specs.Promises.{stays}

@@ -1,5 +1,5 @@
 -- `counters::change::flip` meets its contract. Assumes nothing.
-use Rattle.std.proofs.Common.{◌≡◌, ℕ, ◌-◌, ◌^◌, ◌<◌, false, cond, eqb, [], ◌∷◌, length, sym, ap, ◌∙◌, subst, arith, rules, leb-false}
+use Rattle.std.proofs.Common.{◌≡◌, ℕ, ◌-◌, ◌^◌, ◌<◌, false, cond, eqb, [], ◌∷◌, length, sym, ap, ◌∙◌, subst, arith, leb-false}
 use Rattle.words.specs.declared.handle.Handle.{Handle}
 use Rattle.words.specs.Bits.{bit_at}
 use Rattle.words.specs.Handles.{handle}

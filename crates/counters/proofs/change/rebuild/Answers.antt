@@ -1,5 +1,5 @@
 -- `counters::change::rebuild` meets its contract. Assumes nothing.
-use Rattle.std.proofs.Common.{sym, ap, ◌∙◌, arith, rules}
+use Rattle.std.proofs.Common.{sym, ap, ◌∙◌, arith}
 use Rattle.words.specs.declared.handle.Handle.{Handle}
 use Rattle.words.specs.Bits.{bit_at, ones}
 use Rattle.counters.specs.Promises.{done, outcome}

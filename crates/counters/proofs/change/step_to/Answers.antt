@@ -1,5 +1,5 @@
 -- `counters::change::step_to` meets its contract. Assumes nothing.
-use Rattle.std.proofs.Common.{◌≡◌, ℕ, ◌+◌, ◌-◌, ◌*◌, ◌%◌, ◌^◌, ◌<◌, ◌≤◌, cond, eqb, ◌⊎◌, sym, ◌∙◌, inl, inr, arith, rules, eq-eqb, ne_eqb}
+use Rattle.std.proofs.Common.{◌≡◌, ℕ, ◌+◌, ◌-◌, ◌*◌, ◌%◌, ◌^◌, ◌<◌, ◌≤◌, cond, eqb, ◌⊎◌, sym, ◌∙◌, inl, inr, arith, eq-eqb, ne_eqb}
 use Rattle.words.proofs.Sums.{lt_or}
 use Rattle.words.proofs.Wrapping.{wrapping_exact}
 use Rattle.counters.proofs.change.step_to.Goals as goal

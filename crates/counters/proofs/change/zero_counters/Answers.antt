@@ -1,6 +1,6 @@
 -- `counters::change::zero_counters` meets its contract. The invariant: the counters passed are 0, the others as they were. Assumes nothing.
-use Rattle.std.proofs.Common.{◌-◌, length, arith, rules}
-use Rattle.words.proofs.FillLaws.{Zeroed, zeroed_none, zeroed_more, zeroed_done}
+use Rattle.std.proofs.Common.{arith}
+use Rattle.words.proofs.FillLaws.{zeroed_none, zeroed_more, zeroed_done}
 use Rattle.counters.proofs.change.zero_counters.Goals as goal
 
 pub loop-k-init : goal.loop-k-init

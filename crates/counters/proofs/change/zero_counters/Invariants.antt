@@ -1,6 +1,6 @@
 -- `counters::change::zero_counters` meets its contract. The invariant: the counters passed are 0, the others as they were. Assumes nothing.
-use Rattle.std.proofs.Common.{◌-◌, length, arith, rules}
-use Rattle.words.proofs.FillLaws.{Zeroed, zeroed_none, zeroed_more, zeroed_done}
+use Rattle.std.proofs.Common.{◌-◌, length}
+use Rattle.words.proofs.FillLaws.{Zeroed}
 use Rattle.counters.proofs.change.zero_counters.Given as goal
 
 abbrev pub invariant-loop-k : goal.invariant-loop-k

@@ -1,5 +1,5 @@
 -- `counters::check::check_fill` meets its contract. Assumes nothing.
-use Rattle.std.proofs.Common.{◌≡◌, [], ◌∷◌, sym, ◌∙◌, rules, le-ltb, lt-ltb}
+use Rattle.std.proofs.Common.{◌≡◌, [], ◌∷◌, sym, ◌∙◌, le-ltb, lt-ltb}
 use Rattle.words.specs.Refusals.{judge}
 use Rattle.words.specs.Calls.{value_line, within_line, span_line}
 use Rattle.words.proofs.CheckLaws.{refused_first, passed_first}
@@ -30,7 +30,7 @@ pub returns-then-b-a : goal.returns-then-b-a
 returns-then-b-a c = sym (rest (goal.at.returns-then-b-a c).In-Pass ∙ simp (le-ltb _ _ c.if-v-gt1.false, lt-ltb _ _ c.if-b-a.true))
 
 pub returns-then-h-b : goal.returns-then-h-b
-returns-then-h-b c =     sym (rest (goal.at.returns-then-h-b c).In-Pass ∙ simp (le-ltb _ _ c.if-v-gt1.false, le-ltb _ _ c.if-b-a.false, lt-ltb _ _ c.if-h-b.true))
+returns-then-h-b c = sym (rest (goal.at.returns-then-h-b c).In-Pass ∙ simp (le-ltb _ _ c.if-v-gt1.false, le-ltb _ _ c.if-b-a.false, lt-ltb _ _ c.if-h-b.true))
 
 pub returns : goal.returns
-returns c =     sym (rest (goal.at.returns c).In-Pass ∙ simp (le-ltb _ _ c.if-v-gt1.false, le-ltb _ _ c.if-b-a.false, le-ltb _ _ c.if-h-b.false))
+returns c = sym (rest (goal.at.returns c).In-Pass ∙ simp (le-ltb _ _ c.if-v-gt1.false, le-ltb _ _ c.if-b-a.false, le-ltb _ _ c.if-h-b.false))

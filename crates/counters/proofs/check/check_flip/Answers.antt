@@ -1,5 +1,5 @@
 -- `counters::check::check_flip` meets its contract. Assumes nothing.
-use Rattle.std.proofs.Common.{◌≡◌, ℕ, ◌-◌, ◌<◌, Bool, eqb, ltb, [], ◌∷◌, length, sym, ap, ◌∙◌, arith, rules, le-ltb, lt-ltb}
+use Rattle.std.proofs.Common.{◌≡◌, ℕ, ◌-◌, ◌<◌, Bool, eqb, ltb, [], ◌∷◌, length, sym, ap, ◌∙◌, arith, le-ltb, lt-ltb}
 use Rattle.words.specs.Refusals.{◌⇒◌, judge, verdict_of}
 use Rattle.words.specs.Calls.{below_table}
 use Rattle.words.proofs.CheckLaws.{refused_first, passed_first, judged_pass, Checked, checked_below}

@@ -1,5 +1,5 @@
 -- `counters::check::check_push` meets its contract. Assumes nothing.
-use Rattle.std.proofs.Common.{◌≡◌, leb, [], ◌∷◌, sym, ◌∙◌, rules, le-ltb, lt-ltb, le-leb}
+use Rattle.std.proofs.Common.{◌≡◌, leb, [], ◌∷◌, sym, ◌∙◌, le-ltb, lt-ltb, le-leb}
 use borrow.Author.Tests.{lt-leb}
 use Rattle.words.specs.Refusals.{◌⇒◌, judge}
 use Rattle.words.specs.Calls.{value_line}

@@ -1,5 +1,5 @@
 -- `counters::check::check_record` meets its contract. Assumes nothing.
-use Rattle.std.proofs.Common.{ℕ, eqb, ap, ◌∙◌, rules}
+use Rattle.std.proofs.Common.{ℕ, eqb, ap, ◌∙◌}
 use Rattle.words.specs.Refusals.{judge}
 use Rattle.words.specs.Handles.{strip_lines}
 use Rattle.counters.proofs.check.check_record.Goals as goal

@@ -1,5 +1,5 @@
 -- `counters::check::check_truncate` meets its contract. Assumes nothing.
-use Rattle.std.proofs.Common.{◌≡◌, [], ◌∷◌, sym, ◌∙◌, rules, le-ltb, lt-ltb}
+use Rattle.std.proofs.Common.{◌≡◌, [], ◌∷◌, sym, ◌∙◌, le-ltb, lt-ltb}
 use Rattle.words.specs.Refusals.{judge}
 use Rattle.words.specs.Calls.{within_line}
 use Rattle.words.proofs.CheckLaws.{refused_first, passed_first}

@@ -1,5 +1,5 @@
 -- `counters::descent::child_bits` meets its contract. Assumes nothing.
-use Rattle.std.proofs.Common.{◌≡◌, sym, ap, arith, lit≤, rules}
+use Rattle.std.proofs.Common.{◌≡◌, sym, ap, arith, lit≤}
 use Rattle.counters.specs.Tree.{child_bits}
 use Rattle.counters.proofs.descent.child_bits.Goals as goal
 

@@ -1,5 +1,5 @@
 -- `counters::descent::child_with` meets its contract: the summaries give the group, its keys the child, that hold the k-th v. Assumes nothing.
-use Rattle.std.proofs.Common.{◌≡◌, ℕ, ◌+◌, ◌*◌, ◌<◌, ap, subst, add-zero, arith, rules}
+use Rattle.std.proofs.Common.{◌≡◌, ℕ, ◌+◌, ◌*◌, ◌<◌, ap, subst, add-zero, arith}
 use Rattle.counters.specs.Descent.{FoundIn}
 use Rattle.counters.proofs.SelectionLaws.{gain, eighth, group_valued, key_valued}
 use Rattle.counters.proofs.descent.child_with.Goals as goal

@@ -1,6 +1,6 @@
 -- `counters::descent::descend` meets its contract. The invariant: node `index` of level t is on the way to the k-th v; the measure is t.
 -- Assumes nothing.
-use Rattle.std.proofs.Common.{◌≡◌, ℕ, suc, ◌+◌, ◌-◌, ◌*◌, ◌<◌, ◌≤◌, sym, ap, subst, arith, rules}
+use Rattle.std.proofs.Common.{◌≡◌, ℕ, suc, ◌+◌, ◌-◌, ◌*◌, ◌<◌, ◌≤◌, sym, ap, subst, arith}
 use Rattle.counters.specs.Tree.{nodes, counter_count}
 use Rattle.counters.specs.Working.{most_blocks}
 use Rattle.counters.specs.Descent.{FoundIn, values_before}
@@ -52,10 +52,10 @@ pub overflow_add-level-in-loop-t : goal.overflow_add-level-in-loop-t
 overflow_add-level-in-loop-t c = omega (arith, room (goal.at.overflow_add-level-in-loop-t c).In-loop-t)
 
 pub overflow_mul-index-in-loop-t : goal.overflow_mul-index-in-loop-t
-overflow_mul-index-in-loop-t c =     omega (arith, room (goal.at.overflow_mul-index-in-loop-t c).In-loop-t, c.loop-t.invariant.there)
+overflow_mul-index-in-loop-t c = omega (arith, room (goal.at.overflow_mul-index-in-loop-t c).In-loop-t, c.loop-t.invariant.there)
 
 pub overflow_add-index : goal.overflow_add-index
-overflow_add-index c =     omega (arith, room (goal.at.overflow_add-index c).In-loop-t, c.loop-t.invariant.there, c.child_with-spot.ensures.0)
+overflow_add-index c = omega (arith, room (goal.at.overflow_add-index c).In-loop-t, c.loop-t.invariant.there, c.child_with-spot.ensures.0)
 
 -- the child found holds the k-th v
 found : (c : After-nodes_of)

@@ -1,5 +1,5 @@
 -- `counters::descent::left_after` meets its contract. Assumes nothing.
-use Rattle.std.proofs.Common.{◌≡◌, ◌^◌, ap, mul-le-mul_left, arith, rules}
+use Rattle.std.proofs.Common.{◌≡◌, ◌^◌, ap, mul-le-mul_left, arith}
 use Rattle.words.proofs.Wrapping.{wrapping_exact}
 use Rattle.counters.proofs.SelectionLaws.{nth_valued}
 use Rattle.counters.proofs.descent.left_after.Goals as goal

@@ -1,5 +1,5 @@
 -- `counters::descent::nodes_of` meets its contract. Assumes nothing.
-use Rattle.std.proofs.Common.{◌≡◌, ℕ, sym, ap, ◌∙◌, arith, rules}
+use Rattle.std.proofs.Common.{◌≡◌, ℕ, sym, ap, ◌∙◌, arith}
 use Rattle.counters.specs.Tree.{nodes}
 use Rattle.counters.proofs.TreeLaws.{nodes_zero, nodes_suc}
 use Rattle.counters.proofs.descent.nodes_of.Goals as goal

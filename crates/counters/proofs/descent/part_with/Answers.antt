@@ -1,9 +1,9 @@
 -- `counters::descent::part_with` meets its contract. The invariant: of the first i counters `count` hold at most k of v. Assumes nothing.
-use Rattle.std.proofs.Common.{◌≡◌, ℕ, ◌+◌, ◌-◌, ◌*◌, ◌≤◌, get_or, sym, subst, inl, inr, ⊎_elim, mul-zero, arith}
+use Rattle.std.proofs.Common.{◌≡◌, ℕ, ◌+◌, ◌*◌, get_or, sym, subst, inl, inr, mul-zero, arith}
 use Rattle.words.specs.Bits.{ones}
 use Rattle.words.specs.Working.{at_most}
 use Rattle.words.proofs.Sums.{sum_zero}
-use Rattle.counters.specs.Descent.{most_child_bits, ValueCount, PartCounters}
+use Rattle.counters.specs.Descent.{ValueCount}
 use Rattle.counters.proofs.SelectionLaws.{times_more, reach_more}
 use Rattle.counters.proofs.descent.part_with.Goals as goal
 use Rattle.counters.proofs.descent.part_with.Goals.{then-x-k, else-x-k}

@@ -1,5 +1,5 @@
 -- `counters::descent::select_position` meets its contract: the way down ends in the block that holds the k-th v. Assumes nothing.
-use Rattle.std.proofs.Common.{◌≡◌, ℕ, ◌+◌, ◌-◌, ◌*◌, ◌<◌, ◌≤◌, take, drop, sym, subst, le_refl, arith, rules}
+use Rattle.std.proofs.Common.{◌≡◌, ℕ, ◌+◌, ◌-◌, ◌*◌, ◌<◌, ◌≤◌, take, drop, sym, subst, le_refl, arith}
 use Rattle.words.specs.Bits.{bit_at}
 use Rattle.words.specs.Strip.{rank_of, select_of}
 use Rattle.words.specs.Words.{place_in}

@@ -1,5 +1,5 @@
 -- `counters::descent::value_count` meets its contract. Assumes nothing.
-use Rattle.std.proofs.Common.{◌≡◌, ◌+◌, ◌^◌, sym, arith, rules}
+use Rattle.std.proofs.Common.{◌≡◌, ◌+◌, ◌^◌, sym, arith}
 use Rattle.words.proofs.Wrapping.{wrapping_exact}
 use Rattle.counters.proofs.descent.value_count.Goals as goal
 

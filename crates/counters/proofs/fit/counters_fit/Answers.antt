@@ -1,13 +1,13 @@
 -- `counters::fit::counters_fit` meets its contract. The invariant: the levels 1 to t fit. Assumes nothing.
-use Rattle.std.proofs.Common.{◌≡◌, ◌-◌, ◌<◌, arith, rules, ap, not}
+use Rattle.std.proofs.Common.{◌<◌, arith, ap, not}
 use Rattle.counters.specs.Tree.{height}
 use Rattle.counters.proofs.TreeLaws.{height_le}
-use Rattle.counters.proofs.BuildLaws.{Upto, upto_none, upto_room, upto_next, more_no, more_yes, upto_all}
+use Rattle.counters.proofs.BuildLaws.{upto_none, upto_room, upto_next, more_no, more_yes, upto_all}
 use Rattle.counters.proofs.fit.counters_fit.Goals as goal
 use Rattle.counters.proofs.fit.counters_fit.Goals.{In-loop-t}
 
 pub loop-t-init : goal.loop-t-init
-loop-t-init c =     (c.height_of-levels.ensures, upto_none c.args.words.now c.args.blocks c.args.counters.now c.requires.0 c.requires.1)
+loop-t-init c = (c.height_of-levels.ensures, upto_none c.args.words.now c.args.blocks c.args.counters.now c.requires.0 c.requires.1)
 
 -- there is a next level
 more : (c : In-loop-t) → c.loop-t.t < height c.args.blocks
@@ -18,7 +18,7 @@ pub above-level-requires : goal.above-level-requires
 above-level-requires c = upto_room c.loop-t.invariant.1 (more (goal.at.above-level-requires c).In-loop-t)
 
 pub level_fits-requires : goal.level_fits-requires
-level_fits-requires c =     upto_next c.loop-t.invariant.1 (more (goal.at.level_fits-requires c).In-loop-t) c.above-level.ensures
+level_fits-requires c = upto_next c.loop-t.invariant.1 (more (goal.at.level_fits-requires c).In-loop-t) c.above-level.ensures
 
 pub returns-then-not-level_fits : goal.returns-then-not-level_fits
 returns-then-not-level_fits c =

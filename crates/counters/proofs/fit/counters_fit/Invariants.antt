@@ -1,8 +1,7 @@
 -- `counters::fit::counters_fit` meets its contract. The invariant: the levels 1 to t fit. Assumes nothing.
-use Rattle.std.proofs.Common.{◌≡◌, ◌-◌, ◌<◌, arith, rules, ap, not}
+use Rattle.std.proofs.Common.{◌≡◌}
 use Rattle.counters.specs.Tree.{height}
-use Rattle.counters.proofs.TreeLaws.{height_le}
-use Rattle.counters.proofs.BuildLaws.{Upto, upto_none, upto_room, upto_next, more_no, more_yes, upto_all}
+use Rattle.counters.proofs.BuildLaws.{Upto}
 use Rattle.counters.proofs.fit.counters_fit.Given as goal
 
 abbrev pub invariant-loop-t : goal.invariant-loop-t

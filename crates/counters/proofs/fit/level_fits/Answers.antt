@@ -1,6 +1,6 @@
 -- `counters::fit::level_fits` meets its contract. The invariant: the nodes before j are as laid. Assumes nothing.
-use Rattle.std.proofs.Common.{◌-◌, ◌≤◌, arith, ap, not}
-use Rattle.counters.specs.Building.{child_holds, LevelFrom}
+use Rattle.std.proofs.Common.{arith, ap, not}
+use Rattle.counters.specs.Building.{child_holds}
 use Rattle.counters.proofs.BuildLaws.{children_length, level_none, level_no, level_yes}
 use Rattle.counters.proofs.fit.level_fits.Goals as goal
 
@@ -10,7 +10,7 @@ loop-j-init c =
     (omega arith, level_none (child_holds a.words.now a.counters.now a.t a.below) a.counters.now a.level.start)
 
 pub children_ones-children-requires : goal.children_ones-children-requires
-children_ones-children-requires c =     (c.requires.0, omega (arith, c.requires.0.few, c.requires.1.counted))
+children_ones-children-requires c = (c.requires.0, omega (arith, c.requires.0.few, c.requires.1.counted))
 
 pub node_fits-requires : goal.node_fits-requires
 node_fits-requires c =

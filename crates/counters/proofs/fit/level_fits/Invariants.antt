@@ -1,7 +1,6 @@
 -- `counters::fit::level_fits` meets its contract. The invariant: the nodes before j are as laid. Assumes nothing.
-use Rattle.std.proofs.Common.{◌-◌, ◌≤◌, arith, ap, not}
+use Rattle.std.proofs.Common.{◌≤◌}
 use Rattle.counters.specs.Building.{child_holds, LevelFrom}
-use Rattle.counters.proofs.BuildLaws.{children_length, level_none, level_no, level_yes}
 use Rattle.counters.proofs.fit.level_fits.Given as goal
 
 abbrev pub invariant-loop-j : goal.invariant-loop-j

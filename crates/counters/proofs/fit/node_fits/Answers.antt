@@ -1,5 +1,5 @@
 -- `counters::fit::node_fits` meets its contract. Assumes nothing.
-use Rattle.std.proofs.Common.{ℕ, ◌+◌, ◌-◌, ◌*◌, arith, rules}
+use Rattle.std.proofs.Common.{ℕ, ◌+◌, ◌-◌, ◌*◌, arith}
 use Rattle.counters.proofs.BuildLaws.{node_compared}
 use Rattle.counters.proofs.fit.node_fits.Goals as goal
 

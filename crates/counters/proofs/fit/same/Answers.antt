@@ -1,5 +1,5 @@
 -- `counters::fit::same` meets its contract. The invariant: the counters below i are the same. Assumes nothing.
-use Rattle.std.proofs.Common.{◌≡◌, ℕ, ◌-◌, ◌<◌, ◌≤◌, get_or, arith, below_more}
+use Rattle.std.proofs.Common.{◌≡◌, get_or, arith, below_more}
 use Rattle.counters.proofs.fit.same.Goals as goal
 
 pub loop-i-init : goal.loop-i-init

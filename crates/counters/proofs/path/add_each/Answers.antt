@@ -1,6 +1,6 @@
 -- `counters::path::add_each` meets its contract. The invariant: the numbers before i have their steps added. Assumes nothing.
-use Rattle.std.proofs.Common.{◌-◌, ◌≤◌, arith, rules}
-use Rattle.counters.proofs.PathLaws.{Lanes, lanes_none, lanes_more}
+use Rattle.std.proofs.Common.{arith}
+use Rattle.counters.proofs.PathLaws.{lanes_none, lanes_more}
 use Rattle.counters.proofs.path.add_each.Goals as goal
 
 pub loop-i-init : goal.loop-i-init
@@ -31,7 +31,7 @@ pub loop-i-smaller : goal.loop-i-smaller
 loop-i-smaller c = omega arith
 
 pub loop-i-preserved : goal.loop-i-preserved
-loop-i-preserved c =     (omega arith, lanes_more c.loop-i.invariant.1 (omega arith) c.wrapping_add_u32.result c.wrapping_add_u32.ensures.value)
+loop-i-preserved c = (omega arith, lanes_more c.loop-i.invariant.1 (omega arith) c.wrapping_add_u32.result c.wrapping_add_u32.ensures.value)
 
 pub shape_of-lanes : goal.shape_of-lanes
 shape_of-lanes c = c.loop-i.invariant.1.long

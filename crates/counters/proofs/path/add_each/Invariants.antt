@@ -1,6 +1,6 @@
 -- `counters::path::add_each` meets its contract. The invariant: the numbers before i have their steps added. Assumes nothing.
-use Rattle.std.proofs.Common.{◌-◌, ◌≤◌, arith, rules}
-use Rattle.counters.proofs.PathLaws.{Lanes, lanes_none, lanes_more}
+use Rattle.std.proofs.Common.{◌≤◌}
+use Rattle.counters.proofs.PathLaws.{Lanes}
 use Rattle.counters.proofs.path.add_each.Given as goal
 
 abbrev pub invariant-loop-i : goal.invariant-loop-i

@@ -1,5 +1,5 @@
 -- `counters::path::move_node` meets its contract: the summaries are lent first, then the keys of the child's group. Assumes nothing.
-use Rattle.std.proofs.Common.{ℕ, ◌+◌, ◌-◌, ◌*◌, ◌/◌, ◌%◌, take, drop, refl, arith, rules}
+use Rattle.std.proofs.Common.{ℕ, ◌+◌, ◌-◌, ◌*◌, ◌/◌, ◌%◌, take, drop, refl, arith}
 use Rattle.counters.proofs.SpliceLaws.{splice}
 use Rattle.counters.proofs.PathLaws.{steps_later, lanes_moved, offsets_number, node_moved}
 use Rattle.counters.proofs.path.move_node.Goals as goal

@@ -1,9 +1,9 @@
 -- `counters::path::move_path` meets its contract. The invariant: the levels 1 to t are done. Assumes nothing.
-use Rattle.std.proofs.Common.{ℕ, ◌+◌, ◌-◌, ◌/◌, ◌<◌, ◌≤◌, length, refl, ◌∙◌, arith, rules}
+use Rattle.std.proofs.Common.{ℕ, ◌+◌, ◌-◌, ◌/◌, ◌<◌, ◌≤◌, length, refl, ◌∙◌, arith}
 use Rattle.counters.specs.Tree.{height}
 use Rattle.counters.proofs.SpliceLaws.{part_length}
 use Rattle.counters.proofs.TreeLaws.{height_le, climb_block, climb_ready, climb_room}
-use Rattle.counters.proofs.PathLaws.{Moving, steps_made, moving_none, moving_more, moving_done}
+use Rattle.counters.proofs.PathLaws.{steps_made, moving_none, moving_more, moving_done}
 use Rattle.counters.proofs.path.move_path.Goals as goal
 use Rattle.counters.proofs.path.move_path.Goals.{After-up-climb, In-loop-t}
 

@@ -1,6 +1,5 @@
 -- `counters::query::counters_needed` meets its contract: each return has the test that led there. Assumes nothing.
-use Rattle.std.proofs.Common.{ℕ, Bool, not, [], ◌∷◌, sym, ap, ◌∙◌, rules}
-use borrow.Author.Tests.{not-true, not-false}
+use Rattle.std.proofs.Common.{ℕ, Bool, not, [], ◌∷◌, sym, ap, ◌∙◌}
 use Rattle.words.specs.Refusals.{Told, value, refused, judge, unless, ◌⇒◌}
 use Rattle.counters.specs.Tree.{blocks_of, counter_count}
 use Rattle.counters.proofs.query.counters_needed.Goals as goal

@@ -1,5 +1,5 @@
 -- `counters::read::rank` meets its contract. Assumes nothing.
-use Rattle.std.proofs.Common.{◌≤◌, [], ◌∷◌, length, arith, rules, ltb-false}
+use Rattle.std.proofs.Common.{◌≤◌, [], ◌∷◌, length, arith, ltb-false}
 use Rattle.words.specs.Refusals.{refused}
 use Rattle.words.specs.Calls.{value_line, within_line}
 use Rattle.counters.specs.Calls.{rank_table}

@@ -1,5 +1,5 @@
 -- `counters::read::select` meets its contract. Assumes nothing.
-use Rattle.std.proofs.Common.{◌<◌, ◌≤◌, [], ◌∷◌, length, arith, rules, ltb-false, leb-false}
+use Rattle.std.proofs.Common.{◌<◌, ◌≤◌, [], ◌∷◌, length, arith, ltb-false, leb-false}
 use Rattle.words.specs.Strip.{of_value}
 use Rattle.words.specs.Refusals.{refused}
 use Rattle.words.specs.Calls.{value_line, absent_line}

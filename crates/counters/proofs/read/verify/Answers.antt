@@ -1,7 +1,6 @@
 -- `counters::read::verify` meets its contract. Assumes nothing.
-use Rattle.std.proofs.Common.{◌≡◌, ◌*◌, ◌<◌, ◌≤◌, Bool, ◌⊎◌, length, sym, ap, ◌∙◌, subst, inl, inr, arith, rules}
+use Rattle.std.proofs.Common.{◌≡◌, ◌*◌, ◌<◌, ◌≤◌, Bool, ◌⊎◌, length, sym, ap, ◌∙◌, subst, inl, inr, arith}
 use mathlib.Core.Option.{none}
-use borrow.Author.Tests.{not-true, not-false}
 use Rattle.words.specs.Bits.{bit_at, ones}
 use Rattle.words.specs.Strip.{PastZero}
 use Rattle.words.specs.Refusals.{judge}

@@ -1,7 +1,7 @@
 -- `counters::shape::counter_count` meets its contract. The invariant: `count` is the nodes of level t, and `sum` those of the levels 1 to t.
 -- Assumes nothing.
-use Rattle.std.proofs.Common.{◌≡◌, ℕ, ◌-◌, ◌*◌, ◌/◌, ◌≤◌, ap, ◌∙◌, arith, rules}
-use Rattle.counters.specs.Tree.{nodes, height, total}
+use Rattle.std.proofs.Common.{◌≡◌, ℕ, ◌*◌, ◌/◌, ◌≤◌, ap, ◌∙◌, arith}
+use Rattle.counters.specs.Tree.{height, total}
 use Rattle.counters.proofs.TreeLaws.{nodes_zero, nodes_more, total_zero, total_more, height_le}
 use Rattle.counters.proofs.shape.counter_count.Goals as goal
 use Rattle.counters.proofs.shape.counter_count.Goals.{At-loop-t}

@@ -1,5 +1,5 @@
 -- `counters::shape::height_of` meets its contract. Assumes nothing.
-use Rattle.std.proofs.Common.{sym, rules}
+use Rattle.std.proofs.Common.{sym}
 use Rattle.counters.proofs.TreeLaws.{height_one, height_two, height_three}
 use Rattle.counters.proofs.shape.height_of.Goals as goal
 

@@ -8,4 +8,4 @@ pub node_ones-requires : goal.node_ones-requires
 node_ones-requires c = omega (arith, root_there c.args.blocks c.requires)
 
 pub returns : goal.returns
-returns c =     (c.node_ones.ensures.1, λ f fit clean. c.node_ones.ensures.0 ∙ root_ones f c.args.blocks c.args.counters.now c.requires fit clean)
+returns c = (c.node_ones.ensures.1, λ f fit clean. c.node_ones.ensures.0 ∙ root_ones f c.args.blocks c.args.counters.now c.requires fit clean)
