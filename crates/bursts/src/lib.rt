@@ -1,4 +1,6 @@
 // Bursts: a window of a strip that holds at least so many misfires, over its words alone.
+#![tactic(auto)]
+
 mod bursts;
 mod search;
 mod window;

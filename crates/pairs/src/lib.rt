@@ -1,4 +1,6 @@
 // Two strips of equal capacity and length side by side: counts and a find under a rule that joins their bits, and the difference of their ones over a span.
+#![tactic(auto)]
+
 mod pair;
 mod rule;
 mod scan;
