@@ -15,6 +15,4 @@ pub mod RowLaws
 pub mod InspectLaws
 pub mod QueryLaws
 pub mod OpenedLaws
-pub mod ShapeLaws
-pub mod HeldLaws
 pub mod SmallLaws

@@ -154,7 +154,7 @@ links_grown {K} {s} {t} {link} {end} {label} g {a} {met} (c ∷ cs) (links_more 
     let x : next_at t a ≡ next_at s a = num_under g a 4 (omega arith) in
     let q = absent_first s label a (c ∷ cs) p in
     links_more {bs = c ∷ (cs ++ (end ∷ []))} n (record_before g a f h) (ap (λ (y : ℕ). among y met) l ∙ u)
-    (rw (l, x) (links_grown g cs k z e (unmet_more label (label_at s a) met m q.0) q.1))
+    (rw (l, x) (links_grown g {a = unit_bytes * next_at s a} cs k z e (unmet_more label (label_at s a) met m q.0) q.1))
 
 -- the index that ends a sound chain stands in the header, or past it
 link_far : (s rs : List ℕ) → chain_of s ≡ some rs → (link_of rs ≡ 0) ⊎ (unit_bytes ≤ link_of rs)

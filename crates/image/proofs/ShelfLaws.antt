@@ -522,6 +522,8 @@ module _ (K : Kind) (F : KindFits K) where
       where
         go : (o : Option ℕ) (p : Option Labelled) → record_with image label ≡ o → p ≡ some r → Paired K image o p → RowWith K image label r
         go none none d e neither = let z : ◌≡◌ {A = ℕ} 0 1 = cc in absurd (omega arith)
+        go none (some q) d e x6 = elim x6 [ ]
+        go (some a) none d e x5 = elim x5 [ ]
         go (some a) (some q) d e (both x) = let z : q ≡ r = cc in row_with image label r a written_kind d (subst (RowAt K image a) z x)
 
   -- the index that ends the chain is in the last record, which starts where the rows before it end

@@ -1,4 +1,6 @@
 // The image layer: freezing, the chain of records, the inspection, and the readings of rows.
+#![tactic(auto)]
+
 mod bytes;
 mod chain;
 mod clearing;

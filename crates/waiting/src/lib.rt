@@ -1,4 +1,6 @@
 // A strip with strokes that still wait for pressure, which a second strip marks: what counts and finds give over all outcomes.
+#![tactic(auto)]
+
 mod scan;
 mod waiting;
 
