@@ -1,4 +1,6 @@
 // What a bench display calls on an image: inspect, the three row readings, and the queries of its rows. A refusal comes as 2^32 plus its number.
+#![tactic(auto)]
+
 ghost use Rattle.std.specs.Prelude.{◌≡◌};
 ghost use Rattle.words.specs.Refusals.{coded as coded_of, CodedAs};
 ghost use Rattle.image.specs.Calls.{inspect_told, row_get_told, RowRanked, RowSelected, row_length_told, row_label_told};

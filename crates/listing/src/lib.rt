@@ -1,4 +1,6 @@
 // The rows of an image as text.
+#![tactic(auto)]
+
 mod number;
 mod rows;
 

@@ -1,4 +1,6 @@
 // The runner: scripts of calls over one set of lent buffers, from an opening lay and clear.
+#![tactic(auto)]
+
 mod dispatch;
 mod runner;
 

@@ -1,4 +1,6 @@
 // Merging two images of one engine into a third buffer.
+#![tactic(auto)]
+
 mod copy;
 mod merging;
 mod rows;
