@@ -9,7 +9,7 @@ use super::part::{part_get, part_rank, part_select};
 use words::Answer;
 
 // An opened row: its own part of the image, and its length in bits.
-#[derive(Drop)]
+#[derive(Clone, Copy)]
 pub struct Row<'a> {
     part: &'a [u8],
     length: usize,

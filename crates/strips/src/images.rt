@@ -12,16 +12,14 @@ use merging::merge;
 use words::{Handle, coded};
 
 // clear: the header of an empty chain.
-#[unsafe(no_mangle)]
-pub extern "C" fn image_clear(image: &mut [u8]) -> u64
+pub fn image_clear(image: &mut [u8]) -> u64
     ensures { (result ≡ coded_of (clear_outcome image.old).told) × (image.new ≡ (clear_outcome image.old).image) }
 {
     coded(clear(image))
 }
 
 // freeze(label): the strip's record after the last one.
-#[unsafe(no_mangle)]
-pub extern "C" fn image_freeze(
+pub fn image_freeze(
     capacity: u64,
     length: u64,
     total: u64,
@@ -41,16 +39,14 @@ pub extern "C" fn image_freeze(
 }
 
 // inspect: the number of rows.
-#[unsafe(no_mangle)]
-pub extern "C" fn image_inspect(image: &[u8]) -> u64
+pub fn image_inspect(image: &[u8]) -> u64
     ensures { result ≡ coded_of (inspect_told image.now) }
 {
     coded(inspect(image))
 }
 
 // merge: the first image's rows, then those of the second whose label the first lacks, written out over what the third buffer held.
-#[unsafe(no_mangle)]
-pub extern "C" fn image_merge(first: &[u8], second: &[u8], third: &mut [u8]) -> u64
+pub fn image_merge(first: &[u8], second: &[u8], third: &mut [u8]) -> u64
     ensures { (result ≡ coded_of (merge_outcome first.now second.now third.old).told) ×
         (third.new ≡ (merge_outcome first.now second.now third.old).image) }
 {
@@ -58,48 +54,42 @@ pub extern "C" fn image_merge(first: &[u8], second: &[u8], third: &mut [u8]) -> 
 }
 
 // row count(v, i): how many of the first i bits of the label's row equal v.
-#[unsafe(no_mangle)]
-pub extern "C" fn image_row_rank(image: &[u8], label: u64, v: u64, i: u64) -> u64
+pub fn image_row_rank(image: &[u8], label: u64, v: u64, i: u64) -> u64
     ensures { CodedAs (RowRanked image.now label v i) result }
 {
     coded(row_rank(image, label as usize, v, i as usize))
 }
 
 // row find(v, k): the position in the label's row that holds v and has k of v before it.
-#[unsafe(no_mangle)]
-pub extern "C" fn image_row_select(image: &[u8], label: u64, v: u64, k: u64) -> u64
+pub fn image_row_select(image: &[u8], label: u64, v: u64, k: u64) -> u64
     ensures { CodedAs (RowSelected image.now label v k) result }
 {
     coded(row_select(image, label as usize, v, k as usize))
 }
 
 // row look(i): the bit at position i of the label's row.
-#[unsafe(no_mangle)]
-pub extern "C" fn image_row_get(image: &[u8], label: u64, i: u64) -> u64
+pub fn image_row_get(image: &[u8], label: u64, i: u64) -> u64
     ensures { result ≡ coded_of (row_get_told image.now label i) }
 {
     coded(row_get(image, label as usize, i as usize))
 }
 
 // The bytes of the record of a row of so many bits.
-#[unsafe(no_mangle)]
-pub extern "C" fn image_record_size(length: u64) -> u64
+pub fn image_record_size(length: u64) -> u64
     ensures { result ≡ coded_of (record_size_told length) }
 {
     coded(record_bytes(length as usize))
 }
 
 // The length of the label's row, in bits.
-#[unsafe(no_mangle)]
-pub extern "C" fn image_row_length(image: &[u8], label: u64) -> u64
+pub fn image_row_length(image: &[u8], label: u64) -> u64
     ensures { result ≡ coded_of (row_length_told image.now label) }
 {
     coded(row_length(image, label as usize))
 }
 
 // The label of the k-th row, in chain order.
-#[unsafe(no_mangle)]
-pub extern "C" fn image_row_label(image: &[u8], k: u64) -> u64
+pub fn image_row_label(image: &[u8], k: u64) -> u64
     ensures { result ≡ coded_of (row_label_told image.now k) }
 {
     coded(row_label(image, k as usize))

@@ -36,8 +36,7 @@ fn rule_rank(
 }
 
 // How many strokes before i both strips mark.
-#[unsafe(no_mangle)]
-pub extern "C" fn strip_pair_both(
+pub fn strip_pair_both(
     capacity: u64,
     length: u64,
     total: u64,
@@ -66,8 +65,7 @@ pub extern "C" fn strip_pair_both(
 }
 
 // How many strokes before i either marks.
-#[unsafe(no_mangle)]
-pub extern "C" fn strip_pair_either(
+pub fn strip_pair_either(
     capacity: u64,
     length: u64,
     total: u64,
@@ -96,8 +94,7 @@ pub extern "C" fn strip_pair_either(
 }
 
 // How many strokes before i only the first marks.
-#[unsafe(no_mangle)]
-pub extern "C" fn strip_pair_only_first(
+pub fn strip_pair_only_first(
     capacity: u64,
     length: u64,
     total: u64,
@@ -126,8 +123,7 @@ pub extern "C" fn strip_pair_only_first(
 }
 
 // How many strokes before i the strips judge differently.
-#[unsafe(no_mangle)]
-pub extern "C" fn strip_pair_differ(
+pub fn strip_pair_differ(
     capacity: u64,
     length: u64,
     total: u64,
@@ -156,8 +152,7 @@ pub extern "C" fn strip_pair_differ(
 }
 
 // The position of the k-th stroke, k from 0, that they judge differently.
-#[unsafe(no_mangle)]
-pub extern "C" fn strip_pair_find(
+pub fn strip_pair_find(
     capacity: u64,
     length: u64,
     total: u64,
@@ -182,8 +177,7 @@ pub extern "C" fn strip_pair_find(
 }
 
 // The ones of the first in positions a to b - 1 less those of the second.
-#[unsafe(no_mangle)]
-pub extern "C" fn strip_pair_span(
+pub fn strip_pair_span(
     capacity: u64,
     length: u64,
     total: u64,

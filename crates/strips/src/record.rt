@@ -12,8 +12,7 @@ use counters::{Changed, Created, create, fill, flip, push, rank, select, truncat
 use words::{Handle, coded, number};
 
 // count(v, i): how many of the first i bits equal v.
-#[unsafe(no_mangle)]
-pub extern "C" fn strip_rank(
+pub fn strip_rank(
     capacity: u64,
     length: u64,
     total: u64,
@@ -34,8 +33,7 @@ pub extern "C" fn strip_rank(
 }
 
 // find(v, k): the position that holds v and has k of v before it.
-#[unsafe(no_mangle)]
-pub extern "C" fn strip_select(
+pub fn strip_select(
     capacity: u64,
     length: u64,
     total: u64,
@@ -56,14 +54,7 @@ pub extern "C" fn strip_select(
 }
 
 // check: the ones held, or 9 where the record does not fit.
-#[unsafe(no_mangle)]
-pub extern "C" fn strip_verify(
-    capacity: u64,
-    length: u64,
-    total: u64,
-    words: &[u64],
-    counters: &[u32],
-) -> u64
+pub fn strip_verify(capacity: u64, length: u64, total: u64, words: &[u64], counters: &[u32]) -> u64
     ensures { result ≡ coded_of (verify_told (handle capacity length total) words.now counters.now) }
 {
     coded(verify(
@@ -112,13 +103,7 @@ fn write_created(out: &mut [u64], m: Created)
 }
 
 // lay(capacity): zeroes words and counters.
-#[unsafe(no_mangle)]
-pub extern "C" fn strip_create(
-    capacity: u64,
-    words: &mut [u64],
-    counters: &mut [u32],
-    out: &mut [u64],
-)
+pub fn strip_create(capacity: u64, words: &mut [u64], counters: &mut [u32], out: &mut [u64])
     ensures { lent words.new counters.new out.new ≡ reported created_out words.old
         counters.old out.old (create_outcome capacity words.old counters.old) }
 {
@@ -130,8 +115,7 @@ pub extern "C" fn strip_create(
 }
 
 // add(v): appends v.
-#[unsafe(no_mangle)]
-pub extern "C" fn strip_push(
+pub fn strip_push(
     capacity: u64,
     length: u64,
     total: u64,
@@ -156,8 +140,7 @@ pub extern "C" fn strip_push(
 }
 
 // turn(i): replaces a bit by its opposite.
-#[unsafe(no_mangle)]
-pub extern "C" fn strip_flip(
+pub fn strip_flip(
     capacity: u64,
     length: u64,
     total: u64,
@@ -182,8 +165,7 @@ pub extern "C" fn strip_flip(
 }
 
 // run(a, b, v): sets the positions a to b - 1 to v.
-#[unsafe(no_mangle)]
-pub extern "C" fn strip_fill(
+pub fn strip_fill(
     capacity: u64,
     length: u64,
     total: u64,
@@ -212,8 +194,7 @@ pub extern "C" fn strip_fill(
 }
 
 // cut(n): keeps the first n.
-#[unsafe(no_mangle)]
-pub extern "C" fn strip_truncate(
+pub fn strip_truncate(
     capacity: u64,
     length: u64,
     total: u64,

@@ -11,8 +11,7 @@ use counters::counters_needed;
 use words::{Handle, coded, get, predecessor, successor};
 
 // look(i): the bit at position i.
-#[unsafe(no_mangle)]
-pub extern "C" fn strip_get(capacity: u64, length: u64, total: u64, words: &[u64], i: u64) -> u64
+pub fn strip_get(capacity: u64, length: u64, total: u64, words: &[u64], i: u64) -> u64
     ensures { result ≡ coded_of (get_told (handle capacity length total) words.now i) }
 {
     coded(get(
@@ -23,15 +22,7 @@ pub extern "C" fn strip_get(capacity: u64, length: u64, total: u64, words: &[u64
 }
 
 // next(v, i): the smallest position at or past i that holds v.
-#[unsafe(no_mangle)]
-pub extern "C" fn strip_successor(
-    capacity: u64,
-    length: u64,
-    total: u64,
-    words: &[u64],
-    v: u64,
-    i: u64,
-) -> u64
+pub fn strip_successor(capacity: u64, length: u64, total: u64, words: &[u64], v: u64, i: u64) -> u64
     ensures { result ≡ coded_of (successor_told (handle capacity length total) words.now v i) }
 {
     coded(successor(
@@ -43,8 +34,7 @@ pub extern "C" fn strip_successor(
 }
 
 // prior(v, i): the largest position below i that holds v.
-#[unsafe(no_mangle)]
-pub extern "C" fn strip_predecessor(
+pub fn strip_predecessor(
     capacity: u64,
     length: u64,
     total: u64,
@@ -63,15 +53,7 @@ pub extern "C" fn strip_predecessor(
 }
 
 // burst(w, m): the start of a window of w strokes that holds at least m misfires.
-#[unsafe(no_mangle)]
-pub extern "C" fn strip_burst(
-    capacity: u64,
-    length: u64,
-    total: u64,
-    words: &[u64],
-    w: u64,
-    m: u64,
-) -> u64
+pub fn strip_burst(capacity: u64, length: u64, total: u64, words: &[u64], w: u64, m: u64) -> u64
     ensures { CodedAs (Burst (handle capacity length total) words.now w m) result }
 {
     coded(burst(
@@ -83,8 +65,7 @@ pub extern "C" fn strip_burst(
 }
 
 // How many counters a capacity needs.
-#[unsafe(no_mangle)]
-pub extern "C" fn strip_counter_count(capacity: u64) -> u64
+pub fn strip_counter_count(capacity: u64) -> u64
     ensures { result ≡ coded_of (counters_told capacity) }
 {
     coded(counters_needed(capacity as usize))

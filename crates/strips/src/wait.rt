@@ -53,8 +53,7 @@ fn write_select(out: &mut [u64], m: SelectAnswer)
 }
 
 // waiting count(i): the least and the most misfires before i over all outcomes.
-#[unsafe(no_mangle)]
-pub extern "C" fn strip_waiting_count(
+pub fn strip_waiting_count(
     capacity: u64,
     length: u64,
     total: u64,
@@ -84,8 +83,7 @@ pub extern "C" fn strip_waiting_count(
 }
 
 // waiting find(k): the earliest and the latest position of the k-th misfire, k from 0, over all outcomes.
-#[unsafe(no_mangle)]
-pub extern "C" fn strip_waiting_find(
+pub fn strip_waiting_find(
     capacity: u64,
     length: u64,
     total: u64,

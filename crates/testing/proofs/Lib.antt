@@ -1,2 +1,1 @@
-pub mod OpenedWalk
 pub mod StepLaws

@@ -8,32 +8,28 @@ use image::{Row, open_row, part_get, part_rank, part_select};
 use words::{Answer, coded};
 
 // Opening: the byte where the label's record starts.
-#[unsafe(no_mangle)]
-pub extern "C" fn image_open(image: &[u8], label: u64) -> u64
+pub fn image_open(image: &[u8], label: u64) -> u64
     ensures { result ≡ coded_of (open_told image.now label) }
 {
     coded(open_row(image, label as usize))
 }
 
 // look(i) on a row's part and a held length.
-#[unsafe(no_mangle)]
-pub extern "C" fn image_part_get(part: &[u8], n: u64, i: u64) -> u64
+pub fn image_part_get(part: &[u8], n: u64, i: u64) -> u64
     ensures { result ≡ coded_of (part_get_told kind1 part.now n i) }
 {
     coded(part_get(part, n as usize, i as usize))
 }
 
 // count(v, i) on a row's part and a held length.
-#[unsafe(no_mangle)]
-pub extern "C" fn image_part_rank(part: &[u8], n: u64, v: u64, i: u64) -> u64
+pub fn image_part_rank(part: &[u8], n: u64, v: u64, i: u64) -> u64
     ensures { CodedAs (PartRanked kind1 part.now n v i) result }
 {
     coded(part_rank(part, n as usize, v, i as usize))
 }
 
 // find(v, k) on a row's part and a held length.
-#[unsafe(no_mangle)]
-pub extern "C" fn image_part_select(part: &[u8], n: u64, v: u64, k: u64) -> u64
+pub fn image_part_select(part: &[u8], n: u64, v: u64, k: u64) -> u64
     ensures { CodedAs (PartSelected kind1 part.now n v k) result }
 {
     coded(part_select(part, n as usize, v, k as usize))
@@ -61,8 +57,7 @@ fn opened_select(image: &[u8], label: usize, v: u64, k: usize) -> Answer
 }
 
 // Opening a row, then look(i) on it; a refusal of the opening passes through unchanged.
-#[unsafe(no_mangle)]
-pub extern "C" fn image_opened_get(image: &[u8], label: u64, i: u64) -> u64
+pub fn image_opened_get(image: &[u8], label: u64, i: u64) -> u64
     ensures { result ≡ coded_of (row_get_told image.now label i) }
 {
     let o = open_row(image, label as usize);
@@ -73,8 +68,7 @@ pub extern "C" fn image_opened_get(image: &[u8], label: u64, i: u64) -> u64
 }
 
 // Opening a row, then count(v, i) on it; a refusal of the opening passes through unchanged.
-#[unsafe(no_mangle)]
-pub extern "C" fn image_opened_rank(image: &[u8], label: u64, v: u64, i: u64) -> u64
+pub fn image_opened_rank(image: &[u8], label: u64, v: u64, i: u64) -> u64
     ensures { CodedAs (RowRanked image.now label v i) result }
 {
     let o = open_row(image, label as usize);
@@ -85,8 +79,7 @@ pub extern "C" fn image_opened_rank(image: &[u8], label: u64, v: u64, i: u64) ->
 }
 
 // Opening a row, then find(v, k) on it; a refusal of the opening passes through unchanged.
-#[unsafe(no_mangle)]
-pub extern "C" fn image_opened_select(image: &[u8], label: u64, v: u64, k: u64) -> u64
+pub fn image_opened_select(image: &[u8], label: u64, v: u64, k: u64) -> u64
     ensures { CodedAs (RowSelected image.now label v k) result }
 {
     let o = open_row(image, label as usize);

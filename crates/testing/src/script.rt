@@ -10,8 +10,7 @@ use strips::{OUT_NUMBERS, write_out};
 use words::Handle;
 
 // The opening lay and clear, clear's refusals first where `order` is not 0, then every call of a script.
-#[unsafe(no_mangle)]
-pub extern "C" fn strip_execute(
+pub fn strip_execute(
     script: &[u64],
     capacity: u64,
     order: u64,
@@ -36,8 +35,7 @@ pub extern "C" fn strip_execute(
 
 // One call of a script, on the handle of this capacity, length and total and any buffers. Writes six numbers to the front of `out`: refusal or 0, first value,
 // second value, capacity, length and total of the handle now in use. With a shorter `out` nothing runs.
-#[unsafe(no_mangle)]
-pub extern "C" fn strip_step(
+pub fn strip_step(
     op: u64,
     x: u64,
     y: u64,
