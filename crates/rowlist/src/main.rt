@@ -1,15 +1,34 @@
 // Reads an image from standard input, and writes a line for each of its rows to standard output: label, length in bits, ones.
-use libc::{STDIN_FILENO, STDOUT_FILENO};
-use listing::{Listed, MOST_LISTED, TEXT_BYTES, write_rows};
+#![tactic(auto)]
 
-fn main() {
+ghost use Rattle.std.specs.Prelude.{◌≤◌, length, IfOk};
+
+use listing::{Listed, MOST_LISTED, TEXT_BYTES, write_rows};
+use std::io::{self, Read, Write};
+
+// Fills a buffer from a reader, or up to where that ends, and answers how many bytes there were.
+fn read_full<R: Read>(reader: &mut R, out: &mut [u8]) -> io::Result<usize>
+    ensures { IfOk result (λ n. n ≤ length out.old) }
+{
+    let mut n = 0;
+    while n < out.len() {
+        let k = reader.read(&mut out[n..])?;
+        if k == 0 {
+            break;
+        }
+        n += k;
+    }
+    Ok(n)
+}
+
+fn main(rt: HostRuntime) -> io::Result<()> {
     // one byte more than is listed, so that a longer image shows
     let mut image = [0u8; MOST_LISTED + 1];
-    let n = io::read_full(STDIN_FILENO, &mut image);
+    let n = read_full(&mut rt.stdin(), &mut image)?;
     let mut text = [0u8; TEXT_BYTES];
     let listed = write_rows(&image[..n], &mut text);
     let Listed::Written(k) = listed else {
-        return;
+        return Ok(());
     };
-    io::write_all(STDOUT_FILENO, &text[..k]);
+    rt.stdout().write_all(&text[..k])
 }

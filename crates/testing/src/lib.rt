@@ -1,4 +1,6 @@
 // What tests alone need for C: scripts of calls and single steps, select in a word, the calls on a row's part and on an opened row.
+#![tactic(auto)]
+
 mod images;
 mod script;
 mod word;

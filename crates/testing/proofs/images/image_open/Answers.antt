@@ -1,6 +1,5 @@
 -- `testing::images::image_open` meets its contract: it is that of `open_row`, then that of `coded`. Assumes nothing.
 use mathlib.Core.Path.{ap, ◌∙◌}
-use borrow.Author.Rules.{rules}
 use Rattle.words.specs.Refusals.{coded}
 use Rattle.testing.proofs.images.image_open.Goals as goal
 

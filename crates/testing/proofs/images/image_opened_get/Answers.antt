@@ -2,7 +2,6 @@
 -- Assumes nothing.
 use mathlib.Core.Path.{ap, ◌∙◌}
 use mathlib.Core.List.{[], ◌∷◌}
-use borrow.Author.Rules.{rules}
 use Rattle.words.specs.Refusals.{coded}
 use Rattle.words.specs.Calls.{below_line}
 use Rattle.image.specs.Kinds.{kind1}

@@ -1,7 +1,6 @@
 -- `testing::images::image_opened_select` meets its contract: a refusal of the opening is the reading's, and the call on the opened row is the reading by label.
 -- Assumes nothing.
 use mathlib.Core.List.{[], ◌∷◌}
-use borrow.Author.Rules.{rules}
 use Rattle.words.specs.Calls.{value_line, absent_line}
 use Rattle.image.specs.Kinds.{kind1}
 use Rattle.image.specs.Calls.{row_length}

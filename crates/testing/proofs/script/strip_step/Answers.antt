@@ -1,6 +1,5 @@
 -- `testing::script::strip_step` meets its contract: it is that of `step`, then that of `write_out`. Assumes nothing.
 use native.Mathlib.Omega.{arith}
-use borrow.Author.Rules.{rules}
 use Rattle.words.specs.declared.handle.Handle.{Handle}
 use Rattle.words.specs.Handles.{handle}
 use Rattle.machine.specs.Scripts.{called}
