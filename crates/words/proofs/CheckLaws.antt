@@ -1,5 +1,5 @@
 -- The laws of tables of refusals: one table after another, and what a table that passes says. Assumes nothing.
-use Rattle.std.proofs.Common.{◌≡◌, ℕ, ◌%◌, ◌<◌, ◌≤◌, Bool, true, false, cond, ◌&&◌, eqb, leb, List, [], ◌∷◌, ◌++◌, length, sym, refl, ap, ◌∙◌, arith, ltb-false, eqb-true, leb-false, leb-true}
+use Rattle.std.proofs.Common.{◌≡◌, ℕ, ◌%◌, ◌<◌, ◌≤◌, Bool, true, false, cond, ◌&&◌, eqb, leb, List, [], ◌∷◌, ◌++◌, length, sym, refl, ap, ◌∙◌, arith, ltb-false, le-ltb, lt-ltb, eqb-true, leb-false, leb-true}
 use mathlib.Core.Option.{Option, some, none}
 use Rattle.words.specs.declared.handle.Handle.{Handle}
 use Rattle.words.specs.declared.refusal.Refusal.{Refusal}
@@ -161,6 +161,13 @@ checked h words counted p =
       count = eqb-true _ _ (not_not _ w.1.0);
       counters = not_not _ w.1.1.0;
     }
+
+-- a value that is one, and a position above the length, or not
+pub value_then_above : (v n i : ℕ) → v ≤ 1 → n < i → judge (value_line v ∷ within_line n i ∷ []) ≡ some 4
+value_then_above v n i h k = simp (le-ltb _ _ h, lt-ltb _ _ k)
+
+pub value_then_within : (v n i : ℕ) → v ≤ 1 → i ≤ n → judge (value_line v ∷ within_line n i ∷ []) ≡ none
+value_then_within v n i h k = simp (le-ltb _ _ h, le-ltb _ _ k)
 
 -- a position below the length
 pub checked_below : (h : Handle) (words : ℕ) (counted : Bool) (i : ℕ) → judge (below_table h words counted i) ≡ none

@@ -1,8 +1,8 @@
 -- `words::strip::check_value` meets its contract. Assumes nothing.
-use Rattle.std.proofs.Common.{[], ◌∷◌, sym, ◌∙◌, le-ltb, lt-ltb}
+use Rattle.std.proofs.Common.{[], ◌∷◌, sym, ◌∙◌, lt-ltb, arith}
 use Rattle.words.specs.Handles.{strip_lines}
 use Rattle.words.specs.Calls.{value_line, within_line}
-use Rattle.words.proofs.CheckLaws.{refused_first, passed_first}
+use Rattle.words.proofs.CheckLaws.{refused_first, passed_first, value_then_above, value_then_within}
 use Rattle.words.proofs.strip.check_value.Goals as goal
 
 pub returns-in_default : goal.returns-in_default
@@ -23,7 +23,7 @@ returns-then-length-i c =
     sym (passed_first (strip_lines a.h a.words a.counted) (value_line a.v ∷ within_line a.h.length a.i ∷ []) _
     c.check_strip-verdict.ensures
     c.in-Pass.is
-    ∙ simp (le-ltb _ _ c.if-v-gt1.false, lt-ltb _ _ c.if-length-i.true))
+    ∙ value_then_above a.v a.h.length a.i (omega arith) (omega arith))
 
 pub returns : goal.returns
 returns c =
@@ -31,4 +31,4 @@ returns c =
     sym (passed_first (strip_lines a.h a.words a.counted) (value_line a.v ∷ within_line a.h.length a.i ∷ []) _
     c.check_strip-verdict.ensures
     c.in-Pass.is
-    ∙ simp (le-ltb _ _ c.if-v-gt1.false, le-ltb _ _ c.if-length-i.false))
+    ∙ value_then_within a.v a.h.length a.i (omega arith) (omega arith))
