@@ -1,4 +1,4 @@
-//! Links the static libraries of the crates `strips` and `testing`: in STATICLIB_DIR, or where `rt staticlib` writes them.
+//! Links the static libraries of the crates `strips` and `testing`: in STATICLIB_DIR, or where `tools/build` writes them.
 use std::env;
 use std::path::PathBuf;
 
@@ -11,7 +11,7 @@ fn main() {
     println!("cargo:rustc-link-search=native={}", folder.display());
     for name in ["strips", "testing"] {
         let archive = folder.join(format!("lib{name}.a"));
-        assert!(archive.is_file(), "no {}: run `rt staticlib {name}` first", archive.display());
+        assert!(archive.is_file(), "no {}: run `tools/build {name}` first", archive.display());
         println!("cargo:rerun-if-changed={}", archive.display());
         println!("cargo:rustc-link-lib=static={name}");
     }

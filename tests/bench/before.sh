@@ -3,7 +3,7 @@
 # there for that of the commit, and it is not built.
 
 library() { # FOLDER LOG
-    (cd "$1" && rt staticlib strips) >"$2" 2>&1 || { cat "$2"; exit 1; }
+    (cd "$1" && tools/build strips) >"$2" 2>&1 || { cat "$2"; exit 1; }
 }
 
 # Makes libbefore.a in the folder `work`. Sets `commit`, and for rustc `libraries`: the two, and total_before where the
