@@ -1,6 +1,6 @@
 # The library of a commit beside that of the working tree, in a shell function; the scripts that measure a change read
 # this file. With STATICLIB_DIR set, the library there is taken for that of the working tree, with BEFORE_DIR the one
-# there for that of the commit, and it is not built.
+# there for that of the commit, and it is not built. A commit from before tools/build has to be given so: today's toolchain does not build it.
 
 library() { # FOLDER LOG
     (cd "$1" && tools/build strips) >"$2" 2>&1 || { cat "$2"; exit 1; }

@@ -243,5 +243,5 @@ opened c words counters base =
 
 -- the refusals of the opening lay and clear, in either order: those of the first, then those of the second
 abbrev pub opening_table : ℕ → Bool → ℕ → ℕ → ℕ → List Line
-opening_table c clearFirst words counters bytes =
-    cond clearFirst (clear_table bytes ++ checks (handle_of c []) words counters) (checks (handle_of c []) words counters ++ clear_table bytes)
+opening_table c clear_first words counters bytes =
+    cond clear_first (clear_table bytes ++ checks (handle_of c []) words counters) (checks (handle_of c []) words counters ++ clear_table bytes)

@@ -1,5 +1,5 @@
-// What libstrips.a exports for C, one function each: the seventeen calls, those that compare two strips, the waiting calls, the burst call and the merge; the
-// queries of sizes and rows.
+// What strips_c exports for C, as libstrips.a, one function each: the seventeen calls, those that compare two strips, the waiting calls, the burst call and the
+// merge; the queries of sizes and rows.
 #![tactic(auto)]
 
 mod images;

@@ -1,5 +1,5 @@
 // The calls on a record, words and counters.
-ghost use Rattle.std.specs.Prelude.{◌≡◌, length};
+ghost use Rattle.std.specs.Prelude.{◌≡◌};
 ghost use Rattle.words.specs.Handles.{handle};
 ghost use Rattle.counters.specs.Calls.{Ranked, Selected, verify_told, create_outcome, Pushed, Flipped, fill_outcome, truncate_outcome};
 ghost use Rattle.words.specs.Refusals.{coded as coded_of, CodedAs};

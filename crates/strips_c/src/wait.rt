@@ -1,5 +1,4 @@
 // The waiting calls.
-ghost use Rattle.std.specs.Prelude.{length};
 ghost use Rattle.words.specs.Handles.{handle};
 ghost use Rattle.waiting.specs.Calls.{WaitingRank, WaitingSelect};
 ghost use Rattle.strips.specs.Exports.{rank_numbers, select_numbers, Written};
