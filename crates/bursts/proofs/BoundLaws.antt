@@ -9,8 +9,8 @@ use lib.ListN.{get_or}
 use Rattle.words.specs.Bits.{bit_at, ones}
 use Rattle.words.proofs.Sums.{sum_mono, ones_le}
 use Rattle.words.proofs.WordLaws.{bit_at_le}
-use Rattle.bursts.specs.Working.{Holds, NoneIn, EightRuns}
-use Rattle.bursts.proofs.WindowLaws.{holds_run, none_short, none_join, none_empty, Passed}
+use Rattle.bursts.specs.Working.{NoneIn, Passed, EightRuns}
+use Rattle.bursts.proofs.WindowLaws.{holds_run, none_short, none_join}
 
 -- ---- the bound of the words from position a on
 -- past i words: the ones held from a on to the end of the window that starts there, those needed, and no start before unless a word's bound was reached
@@ -18,16 +18,6 @@ pub record Bounded (ws : List ℕ) (w m a have need : ℕ) (reached : Bool) (i :
   pub held : ones (bit_at ws) a + have ≡ ones (bit_at ws) (a + w + 64 * i)
   pub needed : ones (bit_at ws) a + need ≡ ones (bit_at ws) (a + 64 * i) + m
   pub none : reached ≡ false → NoneIn ws w m a (a + 64 * i)
-
-pub bounded_none : (ws : List ℕ) (w m a c : ℕ) → Holds ws w a c → Bounded ws w m a c m false 0
-bounded_none ws w m a c h =
-    let e : a + w ≡ a + w + 64 * 0 = omega arith in
-    let f : a ≡ a + 64 * 0 = omega arith in
-    record {
-      held = h ∙ ap (ones (bit_at ws)) e;
-      needed = ap (λ (n : ℕ). ones (bit_at ws) n + m) f;
-      none = (λ r. none_empty ws w m a (a + 64 * 0) (omega arith));
-    }
 
 -- a run's ones with those before it
 run_next : (ws : List ℕ) (a i : ℕ) (xs : List ℕ) → i < 8 → EightRuns ws a xs → ones (bit_at ws) (a + 64 * i) + get_or xs i 0 ≡ ones (bit_at ws) (a + 64 * (i + 1))

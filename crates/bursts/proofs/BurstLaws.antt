@@ -3,7 +3,7 @@ use mathlib.Core.Path.{◌≡◌, refl}
 use mathlib.Core.Bool.{◌&&◌}
 use mathlib.Core.List.{List}
 use mathlib.Core.Option.{none}
-use Prim.Native.Nat.{ℕ, ◌+◌, ◌*◌, ◌≤◌, ◌<◌}
+use Prim.Native.Nat.{ℕ, ◌+◌, ◌≤◌}
 use native.Mathlib.Omega.{arith}
 use lib.ListN.{length}
 use lib.Dec.{leb}
@@ -12,14 +12,14 @@ use Rattle.words.specs.declared.handle.Handle.{Handle}
 use Rattle.words.specs.Bits.{bit_at, ones}
 use Rattle.words.specs.Strip.{strip_of}
 use Rattle.words.specs.Refusals.{judge, Told, value, refused, Small}
-use Rattle.words.specs.Handles.{most_bits, untaken, strip_lines}
+use Rattle.words.specs.Handles.{untaken, strip_lines}
 use Rattle.words.proofs.BoolLaws.{and_first, and_second, not_not}
 use Rattle.words.proofs.CheckLaws.{Checked, checked, passes, passed_both}
 use Rattle.words.proofs.StripLaws.{strip_length}
 use Rattle.words.proofs.SmallLaws.{small_judged}
 use Rattle.words.proofs.SpanLaws.{span_words}
 use Rattle.bursts.specs.Calls.{most_width, window_table, burst_table, Qualifies, RightBurst, Burst}
-use Rattle.bursts.specs.Working.{FirstBelow}
+use Rattle.bursts.specs.Working.{NoneBelow, FirstBelow}
 
 -- what the checks leave
 pub record CheckedBurst (h : Handle) (words w m : ℕ) : Type 0 where
@@ -43,10 +43,6 @@ checked_burst h words w m p =
       most = leb-true _ _ (and_second (leb 1 m) (leb m w) number);
     }
 
--- the words hold the strip, and all that it has room for
-pub burst_room : (h : Handle) (words w m : ℕ) → CheckedBurst h words w m → (h.length ≤ h.capacity) × (h.capacity ≤ 64 * words) × (h.capacity ≤ most_bits)
-burst_room h words w m k = (k.strip.long, omega (arith, k.strip.count, k.strip.step), k.strip.most)
-
 -- a window of the strip that qualifies is one of the words that holds enough
 module _ (ws : List ℕ) (n w m : ℕ) where
   pub qualifies : (a : ℕ) → a + w ≤ n → ones (bit_at ws) a + m ≤ ones (bit_at ws) (a + w) → Qualifies (strip_of ws n) w m a
@@ -60,12 +56,11 @@ module _ (ws : List ℕ) (n w m : ℕ) where
       let l : a + w ≤ n = omega (arith, q.inside, strip_length ws n) in
       (l, omega (arith, q.enough, span_words ws n a (a + w) la l))
 
-  pub burst_found : (r : ℕ) → FirstBelow ws n w m r → r < n → RightBurst (strip_of ws n) w m (value r)
-  burst_found r f l = let h = f.hit l in qualifies r h.0 h.1
+  pub burst_found : (r : ℕ) → FirstBelow ws n w m r → RightBurst (strip_of ws n) w m (value r)
+  burst_found r f = qualifies r f.inside f.hit
 
-  pub burst_none : (r : ℕ) → 1 ≤ w → FirstBelow ws n w m r → n ≤ r → RightBurst (strip_of ws n) w m (refused 6)
-  burst_none r lw f l =
-      (λ a q. let h = qualified a q in let s : a < r = omega (arith, h.0) in absurd (omega (arith, h.1, f.none a s h.0)), refl)
+  pub burst_none : NoneBelow ws n w m → RightBurst (strip_of ws n) w m (refused 6)
+  burst_none short = (λ a q. let h = qualified a q in absurd (omega (arith, h.1, short a h.0)), refl)
 
 -- what is told is small: a start is below the length, so below 2^32
 pub small_burst : (h : Handle) (ws : List ℕ) (w m : ℕ) (t : Told) → Burst h ws w m t → Small t

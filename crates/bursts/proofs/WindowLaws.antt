@@ -10,7 +10,9 @@ use Rattle.words.specs.Bits.{bit, bit_at, ones}
 use Rattle.words.proofs.Sums.{lt_or, sum_mono, sum_split, sum_ext, ones_le, part_ones}
 use Rattle.words.proofs.BitLaws.{bit_shr, bit_mod, bit_high, bit_shl_at, bit_shl_below, bit_of_or}
 use Rattle.words.proofs.WordLaws.{word_bit, bit_at_le}
-use Rattle.bursts.specs.Working.{Holds, Reaches, NoneIn, FirstIn, Searched, FirstBelow, FirstStart, Following, run_ones, EightRuns}
+use Rattle.std.specs.declared.ops.ControlFlow.{ControlFlow}
+use Rattle.std.specs.declared.ops.ControlFlow.TheVariants.{Continue, Break}
+use Rattle.bursts.specs.Working.{Holds, Reaches, NoneIn, FirstIn, Passed, Searched, NoneBelow, FirstBelow, NoStart, FirstStart, Following, run_ones, EightRuns}
 
 -- what holds below n and of n
 pub below_more : (P : ℕ → Type 0) (n : ℕ) → ((s : ℕ) → s < n → P s) → P n → (s : ℕ) → s < n + 1 → P s
@@ -76,10 +78,6 @@ pub holds_le : (ws : List ℕ) (w a c : ℕ) → Holds ws w a c → c ≤ w
 holds_le ws w a c h =
     omega (arith, h, sum_split (bit_at ws) a w, ones_le (λ p. bit_at ws (a + p)) w (λ p. bit_at_le ws (a + p)))
 
--- the first window, by the ones before its end
-pub holds_first : (ws : List ℕ) (w c : ℕ) → ones (bit_at ws) 0 + c ≡ ones (bit_at ws) w → Holds ws w 0 c
-holds_first ws w c h = let e : w ≡ 0 + w = omega arith in h ∙ ap (ones (bit_at ws)) e
-
 -- 64 positions that are the bits of a word
 pub holds_bits : (ws : List ℕ) (a x v : ℕ) → ((p : ℕ) → p < 64 → bit x p ≡ bit_at ws (a + p)) → v ≡ ones (bit x) 64 → Holds ws 64 a v
 holds_bits ws a x v bits e = omega (arith, e, part_ones (bit_at ws) (bit x) a 64 64 bits (omega arith))
@@ -126,13 +124,8 @@ pub none_empty : (ws : List ℕ) (w m a b : ℕ) → b ≤ a → NoneIn ws w m a
 none_empty ws w m a b h s la lb = absurd (omega arith)
 
 -- none of a word's first k starts serves where the first window's ones and all that enter are too few
-pub bound_none : (f g : ℕ → ℕ) (c m k : ℕ) → k ≤ 64 → c + ones g 64 < m → FirstStart f g c m k k
-bound_none f g c m k lk h =
-    record {
-      within = omega arith;
-      none = (λ d l. let ld : d ≤ 64 = omega arith in omega (arith, sum_mono g ld));
-      hit = (λ l. absurd (omega arith));
-    }
+pub bound_none : (f g : ℕ → ℕ) (c m k : ℕ) → k ≤ 64 → c + ones g 64 < m → NoStart f g c m k
+bound_none f g c m k lk h d l = let ld : d ≤ 64 = omega arith in omega (arith, sum_mono g ld)
 
 -- ---- windows that start in one word
 -- that of position a holds c ones; the bits of x are the positions from a on, the first v bits of e those past the window
@@ -148,132 +141,109 @@ module _ (ws : List ℕ) (w a c x e v : ℕ) (holds : Holds ws w a c) (xs : (p :
       omega (arith, ap (ones (bit_at ws)) at, part_ones (bit_at ws) (bit e) (a + w) v d es l, holds)
 
   -- the starts that were tried
-  module _ (m k r : ℕ) (lk : k ≤ 64) (lv : k ≤ v + 1) (first : FirstStart (bit x) (bit e) c m k r) where
-    tried_none : NoneIn ws w m a (a + r)
-    tried_none s la lb =
+  module _ (m r : ℕ) (lr : r ≤ 64) where
+    tried_none : r ≤ v + 1 → NoStart (bit x) (bit e) c m r → NoneIn ws w m a (a + r)
+    tried_none lv none s la lb =
         let at : a + (s - a) ≡ s = omega arith in
         let l : s - a < r = omega arith in
         omega (
           arith,
-          first.none (s - a) l,
-          first.within,
+          none (s - a) l,
           ap (ones (bit_at ws)) at,
           ap (λ (q : ℕ). ones (bit_at ws) (q + w)) at,
-          left (s - a) (omega (arith, first.within)),
-          entered (s - a) (omega (arith, first.within)),
+          left (s - a) (omega arith),
+          entered (s - a) (omega arith),
         )
 
-    tried_hit : r < k → Reaches ws w m (a + r)
-    tried_hit l = omega (arith, first.hit l, left r (omega arith), entered r (omega arith))
+    tried_hit : r ≤ v → m + ones (bit x) r ≤ c + ones (bit e) r → Reaches ws w m (a + r)
+    tried_hit lv hit = omega (arith, hit, left r lr, entered r lv)
 
 -- ---- the starts of a word, from its first position a to that of the next, b
 module _ (ws : List ℕ) (w m a b : ℕ) (eb : a + 64 ≡ b) where
   -- the window of a and the 64 positions past it hold too few
-  pub word_short : (most : ℕ) → Holds ws (w + 64) a most → most < m → FirstIn ws w m a b b
+  pub word_short : (most : ℕ) → Holds ws (w + 64) a most → most < m → NoneIn ws w m a b
   word_short most h l =
       let e : a + (w + 64) ≡ b + w = omega arith in
-      record {
-        start = omega arith;
-        within = omega arith;
-        none = none_short ws w m a b (omega (arith, h, ap (ones (bit_at ws)) e));
-        hit = (λ k. absurd (omega arith));
-      }
+      none_short ws w m a b (omega (arith, h, ap (ones (bit_at ws)) e))
 
-  -- all 64 tried
-  pub word_tried : (c x e d : ℕ) → Holds ws w a c → ((p : ℕ) → p < 64 → bit x p ≡ bit_at ws (a + p)) → ((p : ℕ) → p < 64 → bit e p ≡ bit_at ws (a + w + p))
-      → FirstStart (bit x) (bit e) c m 64 d → FirstIn ws w m a b (a + d)
-  word_tried c x e d h xs es first =
-      record {
-        start = omega arith;
-        within = omega (arith, first.within);
-        none = tried_none ws w a c x e 64 h xs es m 64 d (omega arith) (omega arith) first;
-        hit = (λ l. tried_hit ws w a c x e 64 h xs es m 64 d (omega arith) (omega arith) first (omega arith));
-      }
+  -- all 64 tried: the first that serves, or none
+  module _ (c x e : ℕ) (h : Holds ws w a c) (xs : (p : ℕ) → p < 64 → bit x p ≡ bit_at ws (a + p))
+      (es : (p : ℕ) → p < 64 → bit e p ≡ bit_at ws (a + w + p)) where
+    pub word_tried : (d : ℕ) → FirstStart (bit x) (bit e) c m 64 d → FirstIn ws w m a b (a + d)
+    word_tried d first =
+        let l : d ≤ 64 = omega (arith, first.before) in
+        record {
+          start = omega arith;
+          before = omega (arith, first.before);
+          none = tried_none ws w a c x e 64 h xs es m d l (omega arith) first.none;
+          hit = tried_hit ws w a c x e 64 h xs es m d l l first.hit;
+        }
+
+    pub word_none : NoStart (bit x) (bit e) c m 64 → NoneIn ws w m a b
+    word_none none = subst (NoneIn ws w m a) eb (tried_none ws w a c x e 64 h xs es m 64 (omega arith) (omega arith) none)
 
 -- ---- a search from the left
--- the starts from a to b - 1 are passed: none serves, and the window that starts at b holds c
-pub record Passed (ws : List ℕ) (w m a b c : ℕ) : Type 0 where
-  pub none : NoneIn ws w m a b
-  pub holds : Holds ws w b c
-
 pub passed_none : (ws : List ℕ) (w m a b c : ℕ) → a ≡ b → Holds ws w a c → Passed ws w m a b c
 passed_none ws w m a b c e h = record { none = none_empty ws w m a b (omega arith); holds = subst (λ (q : ℕ). Holds ws w q c) e h }
 
 -- a search that found none
-pub searched_passed : {ws : List ℕ} {w m a b r c : ℕ} → Searched ws w m a b r c → b ≤ r → Passed ws w m a b c
-searched_passed f l = record { none = (λ s la lb. f.first.none s la (omega arith)); holds = f.holds l }
+pub searched_passed : {ws : List ℕ} {w m a b c : ℕ} → Searched ws w m a b (Continue c) → Passed ws w m a b c
+searched_passed f = f
 
 module _ {ws : List ℕ} {w m a k c : ℕ} (p : Passed ws w m a k c) where
-  -- a first start past these is the first of all
-  first_after : (b n r : ℕ) → FirstIn ws w m k b r → a ≤ k → b ≤ n → (r < n → r < b) → FirstIn ws w m a n r
-  first_after b n r f la lb l =
-      record {
-        start = omega (arith, f.start);
-        within = omega (arith, f.within);
-        none = none_join ws w m a k r p.none f.none;
-        hit = (λ h. f.hit (l h));
-      }
-
   -- none of the 64 starts from k on serves: the window moves on by the 64 positions past it, which hold v, and its first 64, which hold x
   module _ (b v x : ℕ) (eb : k + 64 ≡ b) (enters : Holds ws 64 (k + w) v) (leaves : Holds ws 64 k x) where
     pub passed_le : x ≤ c + v
     passed_le = leaving_le ws w k b (c + v) x eb (holds_wider ws w k c v p.holds enters) leaves
 
-    pub passed_more : (e r : ℕ) → FirstIn ws w m k e r → b ≤ r → Passed ws w m a b (c + v - x)
-    passed_more e r f l =
+    pub passed_more : NoneIn ws w m k b → Passed ws w m a b (c + v - x)
+    passed_more none =
         record {
-          none = none_join ws w m a k b p.none (λ s la lb. f.none s la (omega arith));
+          none = none_join ws w m a k b p.none none;
           holds = holds_moved ws w k b (c + v) x eb (holds_wider ws w k c v p.holds enters) leaves;
         }
 
-  -- a start was found before b
-  pub searched_found : (b n r count : ℕ) → FirstIn ws w m k b r → r < b → a ≤ k → b ≤ n → Searched ws w m a n r count
-  searched_found b n r count f l la lb = record { first = first_after b n r f la lb (λ h. l); holds = (λ h. absurd (omega arith)) }
+  -- a first start past these, before b, is the first of all
+  pub searched_found : (b n r : ℕ) → FirstIn ws w m k b r → a ≤ k → b ≤ n → FirstIn ws w m a n r
+  searched_found b n r f la lb =
+      record { start = omega (arith, f.start); before = omega (arith, f.before); none = none_join ws w m a k r p.none f.none; hit = f.hit }
 
-  -- none was: k is the end
-  pub searched_none : (n : ℕ) → k ≡ n → a ≤ k → Searched ws w m a n n c
-  searched_none n e la =
-      record {
-        first = record { start = omega arith; within = omega arith; none = subst (NoneIn ws w m a) e p.none; hit = (λ h. absurd (omega arith)) };
-        holds = (λ h. subst (λ (q : ℕ). Holds ws w q c) e p.holds);
-      }
+  -- none was found: k is the end
+  pub searched_none : (n : ℕ) → k ≡ n → Passed ws w m a n c
+  searched_none n e = subst (λ (q : ℕ). Passed ws w m a q c) e p
 
   -- after these a search up to b, which found none
-  pub passed_over : (b r count : ℕ) → Searched ws w m k b r count → b ≤ r → Passed ws w m a b count
-  passed_over b r count f l =
-      let q = searched_passed f l in
-      record { none = none_join ws w m a k b p.none q.none; holds = q.holds }
+  pub passed_over : (b count : ℕ) → Passed ws w m k b count → Passed ws w m a b count
+  passed_over b count q = record { none = none_join ws w m a k b p.none q.none; holds = q.holds }
 
   -- or to the end
-  pub searched_after : (n r count : ℕ) → Searched ws w m k n r count → a ≤ k → Searched ws w m a n r count
-  searched_after n r count f la = record { first = first_after n n r f.first la (omega arith) (λ h. h); holds = f.holds }
+  pub searched_after : (n : ℕ) (s : ControlFlow ℕ ℕ) → Searched ws w m k n s → a ≤ k → Searched ws w m a n s
+  searched_after n (Continue count) f la = passed_over n count f
+  searched_after n (Break r) f la = searched_found n n r f la (omega arith)
 
 -- ---- windows that end at or before n
 -- a start that a search over whole words found
-pub below_found : (ws : List ℕ) (n w m b r : ℕ) → 1 ≤ w → b + w ≤ n → FirstIn ws w m 0 b r → r < b → FirstBelow ws n w m r
-below_found ws n w m b r lw lb f l =
-    record { within = omega arith; none = (λ s h e. f.none s (omega arith) h); hit = (λ h. (omega arith, f.hit l)) }
+pub below_found : (ws : List ℕ) (n w m b r : ℕ) → b + w ≤ n → FirstIn ws w m 0 b r → FirstBelow ws n w m r
+below_found ws n w m b r lb f = record { inside = omega (arith, f.before); none = f.none; hit = f.hit }
 
 -- the last starts: from the first position a of a word to a + k, where the window ends at n; d is the first of them that serves
-module _ (ws : List ℕ) (n w m a k c x e d : ℕ) (en : n ≡ a + w + k) (lw : 1 ≤ w) (lk : k < 64) (p : Passed ws w m 0 a c)
-    (xs : (q : ℕ) → q < 64 → bit x q ≡ bit_at ws (a + q)) (es : (q : ℕ) → q < 64 → a + w + q < n → bit e q ≡ bit_at ws (a + w + q))
-    (first : FirstStart (bit x) (bit e) c m (k + 1) d) where
+module _ (ws : List ℕ) (n w m a k c x e : ℕ) (en : n ≡ a + w + k) (lk : k < 64) (p : Passed ws w m 0 a c)
+    (xs : (q : ℕ) → q < 64 → bit x q ≡ bit_at ws (a + q)) (es : (q : ℕ) → q < 64 → a + w + q < n → bit e q ≡ bit_at ws (a + w + q)) where
   enters : (q : ℕ) → q < k → bit e q ≡ bit_at ws (a + w + q)
   enters q l = es q (omega arith) (omega arith)
 
-  ruled : NoneIn ws w m 0 (a + d)
-  ruled = none_join ws w m 0 a (a + d) p.none (tried_none ws w a c x e k p.holds xs enters m (k + 1) d (omega arith) (omega arith) first)
+  ruled : (d : ℕ) → d ≤ k + 1 → NoStart (bit x) (bit e) c m d → NoneIn ws w m 0 (a + d)
+  ruled d l none = none_join ws w m 0 a (a + d) p.none (tried_none ws w a c x e k p.holds xs enters m d (omega arith) l none)
 
-  last_found : d ≤ k → FirstBelow ws n w m (a + d)
-  last_found l =
+  pub last_start : (d : ℕ) → FirstStart (bit x) (bit e) c m (k + 1) d → FirstBelow ws n w m (a + d)
+  last_start d first =
+      let l : d ≤ k = omega (arith, first.before) in
       record {
-        within = omega arith;
-        none = (λ s h t. ruled s (omega arith) h);
-        hit = (λ h. (omega arith, tried_hit ws w a c x e k p.holds xs enters m (k + 1) d (omega arith) (omega arith) first (omega arith)));
+        inside = omega arith;
+        none = ruled d (omega arith) first.none;
+        hit = tried_hit ws w a c x e k p.holds xs enters m d (omega arith) l first.hit;
       }
 
-  last_none : k < d → FirstBelow ws n w m n
-  last_none l = record { within = omega arith; none = (λ s h t. ruled s (omega arith) (omega arith)); hit = (λ h. absurd (omega arith)) }
-
-  pub last_start : (d ≤ k → FirstBelow ws n w m (a + d)) × (k < d → FirstBelow ws n w m n)
-  last_start = (last_found, last_none)
+  -- or none serves
+  pub last_none : NoStart (bit x) (bit e) c m (k + 1) → NoneBelow ws n w m
+  last_none none s l = ruled (k + 1) (omega arith) none s (omega arith) (omega arith)

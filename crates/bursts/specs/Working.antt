@@ -1,6 +1,8 @@
 -- Derived, for inner contracts: windows of w positions over a list of words, by the ones before their ends. Laws in proofs/ tie them to the definitions.
 -- Assumes nothing.
-use Rattle.std.specs.Prelude.{◌≡◌, List, ℕ, ◌+◌, ◌-◌, ◌*◌, ◌≤◌, ◌<◌, length, get_or}
+use Rattle.std.specs.Prelude.{◌≡◌, List, ℕ, ◌+◌, ◌-◌, ◌*◌, ◌≤◌, ◌<◌, length, get_or, Option, MatchOption}
+use Rattle.std.specs.ControlFlow.{MatchControlFlow}
+use Rattle.std.specs.declared.ops.ControlFlow.{ControlFlow}
 use Rattle.words.specs.Bits.{bit, bit_at, ones}
 
 -- the window that starts at a holds c ones
@@ -15,29 +17,53 @@ Reaches ws w m a = ones (bit_at ws) a + m ≤ ones (bit_at ws) (a + w)
 abbrev pub NoneIn : List ℕ → ℕ → ℕ → ℕ → ℕ → Type 0
 NoneIn ws w m a b = (s : ℕ) → a ≤ s → s < b → ones (bit_at ws) (s + w) < ones (bit_at ws) s + m
 
--- r is the smallest such start from a on, below b, or b where there is none
+-- r is the smallest such start from a on, below b
 pub record FirstIn (ws : List ℕ) (w m a b r : ℕ) : Type 0 where
   pub start : a ≤ r
-  pub within : r ≤ b
+  pub before : r < b
   pub none : NoneIn ws w m a r
-  pub hit : r < b → Reaches ws w m r
+  pub hit : Reaches ws w m r
 
--- what a search over starts from a to b - 1 gives: that start, and where there is none the ones of the window that starts at b
-pub record Searched (ws : List ℕ) (w m a b start count : ℕ) : Type 0 where
-  pub first : FirstIn ws w m a b start
-  pub holds : b ≤ start → Holds ws w b count
+-- o is that start, if there is one
+abbrev pub StartIn : List ℕ → (w m a b : ℕ) → Option ℕ → Type 0
+StartIn ws w m a b o = MatchOption o (NoneIn ws w m a b) (FirstIn ws w m a b)
 
--- r is the smallest such start of a window that ends at or before n, or n where there is none
+-- the starts from a to b - 1 are passed: none serves, and the window that starts at b holds c
+pub record Passed (ws : List ℕ) (w m a b c : ℕ) : Type 0 where
+  pub none : NoneIn ws w m a b
+  pub holds : Holds ws w b c
+
+-- what a search over starts from a to b - 1 gives: it breaks off at that start, or goes on with the ones of the window that starts at b
+abbrev pub Searched : List ℕ → (w m a b : ℕ) → ControlFlow ℕ ℕ → Type 0
+Searched ws w m a b s = MatchControlFlow s (Passed ws w m a b) (FirstIn ws w m a b)
+
+-- no window that ends at or before n holds as many
+abbrev pub NoneBelow : List ℕ → (n w m : ℕ) → Type 0
+NoneBelow ws n w m = (s : ℕ) → s + w ≤ n → ones (bit_at ws) (s + w) < ones (bit_at ws) s + m
+
+-- r is the smallest such start of a window that ends at or before n
 pub record FirstBelow (ws : List ℕ) (n w m r : ℕ) : Type 0 where
-  pub within : r ≤ n
-  pub none : (s : ℕ) → s < r → s + w ≤ n → ones (bit_at ws) (s + w) < ones (bit_at ws) s + m
-  pub hit : r < n → (r + w ≤ n) × Reaches ws w m r
+  pub inside : r + w ≤ n
+  pub none : NoneIn ws w m 0 r
+  pub hit : Reaches ws w m r
 
--- r is the first d below k such that c ones, with the first d of the bits g and without the first d of the bits f, are at least m, or k
+-- o is that start, if there is one
+abbrev pub StartBelow : List ℕ → (n w m : ℕ) → Option ℕ → Type 0
+StartBelow ws n w m o = MatchOption o (NoneBelow ws n w m) (FirstBelow ws n w m)
+
+-- for no d below k are c ones, with the first d of the bits g and without the first d of the bits f, at least m
+abbrev pub NoStart : (f g : ℕ → ℕ) (c m k : ℕ) → Type 0
+NoStart f g c m k = (d : ℕ) → d < k → c + ones g d < m + ones f d
+
+-- r is the first d below k for which they are
 pub record FirstStart (f g : ℕ → ℕ) (c m k r : ℕ) : Type 0 where
-  pub within : r ≤ k
-  pub none : (d : ℕ) → d < r → c + ones g d < m + ones f d
-  pub hit : r < k → m + ones f r ≤ c + ones g r
+  pub before : r < k
+  pub none : NoStart f g c m r
+  pub hit : m + ones f r ≤ c + ones g r
+
+-- o is that d, if there is one
+abbrev pub StartOf : (f g : ℕ → ℕ) (c m k : ℕ) → Option ℕ → Type 0
+StartOf f g c m k o = MatchOption o (NoStart f g c m k) (FirstStart f g c m k)
 
 -- the bits of r are the 64 that follow bit u of the word `low`, the word `high` being the next
 pub record Following (low high u r : ℕ) : Type 0 where

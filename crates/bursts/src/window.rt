@@ -3,7 +3,7 @@ ghost use Rattle.std.specs.Prelude.{◌≡◌, ℕ, ◌+◌, ◌*◌, ◌<◌, �
 ghost use Rattle.words.specs.Bits.{bit, bit_at};
 ghost use Rattle.words.specs.Handles.{most_bits, words_of};
 ghost use Rattle.bursts.specs.Calls.{most_width};
-ghost use Rattle.bursts.specs.Working.{Holds, FirstIn, FirstStart, Following, EightRuns};
+ghost use Rattle.bursts.specs.Working.{Holds, StartIn, StartOf, Following, EightRuns};
 
 use words::{bit_of, ones_of};
 
@@ -15,78 +15,90 @@ pub fn following(low: u64, high: u64, u: usize) -> u64
     ((low >> 1) >> u) | (high << (63 - u))
 }
 
-// The 64 positions past the window that starts with word j: they enter as it moves on by a word.
-pub fn entering(words: &[u64], w: usize, j: usize) -> u64
-    requires { (1 ≤ w) × (w ≤ most_width) × (j ≤ words_of most_bits) × (64 * (j + 1) + w ≤ 64 * length words.now) }
-    ensures { (p : ℕ) → p < 64 → bit result p ≡ bit_at words.now (64 * j + w + p) }
-{
-    let last = j + (w - 1) / 64;
-    following(words[last], words[last + 1], (w - 1) % 64)
-}
-
-// The first of k starts in a word, from its first position on, whose window holds at least m ones, or k: the first window holds c, the bits of x leave, those
-// of e enter.
-pub fn first_start(x: u64, e: u64, c: usize, m: usize, k: usize) -> usize
+// The first of k starts in a word, from its first position on, whose window holds at least m ones: the first window holds c, the bits of x leave, those of e
+// enter.
+pub fn first_start(x: u64, e: u64, c: usize, m: usize, k: usize) -> Option<usize>
     requires { (k ≤ 64) × (c ≤ most_width) × (m ≤ most_width) }
-    ensures { FirstStart (bit x) (bit e) c m k result }
+    ensures { StartOf (bit x) (bit e) c m k result }
 {
     let mut have = c;
     let mut need = m;
-    let mut d: usize = 0;
-    while d < k {
+    for d in 0..k {
         if need <= have {
-            return d;
+            return Some(d);
         }
         have += bit_of(e, d) as usize;
         need += bit_of(x, d) as usize;
-        d += 1;
     }
-    k
+    None
 }
 
 // The same, where the starts are tried only if the ones of the first window and all of e reach m: no window that starts in the word holds more.
-pub fn bounded_start(x: u64, e: u64, c: usize, m: usize, k: usize) -> usize
+pub fn bounded_start(x: u64, e: u64, c: usize, m: usize, k: usize) -> Option<usize>
     requires { (k ≤ 64) × (c ≤ most_width) × (m ≤ most_width) }
-    ensures { FirstStart (bit x) (bit e) c m k result }
+    ensures { StartOf (bit x) (bit e) c m k result }
 {
     if c + ones_of(e) < m {
-        return k;
+        return None;
     }
     first_start(x, e, c, m, k)
 }
 
-// The first start in word j whose window holds at least m ones, or the next word's first position. That of word j holds c; with the 64 positions past it, `most`:
-// no window that starts in the word holds more. Only where `most` reaches m is the word read here, and its starts tried.
-pub fn start_in_word(words: &[u64], w: usize, m: usize, j: usize, c: usize, most: usize) -> usize
-    requires { (1 ≤ w) × (w ≤ most_width) × (m ≤ most_width) × (j ≤ words_of most_bits) × (64 * (j + 1) + w ≤ 64 * length words.now) × Holds words.now w (64 * j) c × Holds words.now (w + 64) (64 * j) most }
-    ensures { FirstIn words.now w m (64 * j) (64 * (j + 1)) result }
-{
-    if most < m {
-        return 64 * (j + 1);
-    }
-    64 * j + first_start(words[j], entering(words, w, j), c, m, 64)
+// The windows of w positions over a list of words, of which one is sought that holds at least m ones.
+#[derive(Clone, Copy)]
+pub struct Windows<'a> {
+    pub words: &'a [u64],
+    pub w: usize,
+    pub m: usize,
+    ghost sized: { (1 ≤ w) × (w ≤ most_width) × (m ≤ most_width) },
 }
 
-// The ones of each of the eight words from word j on.
-pub fn leaving_ones(words: &[u64], j: usize) -> [usize; 8]
-    requires { j + 8 ≤ length words.now }
-    ensures { EightRuns words.now (64 * j) result }
-{
-    let mut counts = [0usize; 8];
-    for i in 0..8 {
-        counts[i] = ones_of(words[j + i]);
+impl<'a> Windows<'a> {
+    // The 64 positions past the window that starts with word j: they enter as it moves on by a word.
+    pub fn entering(self, j: usize) -> u64
+        requires { (j ≤ words_of most_bits) × (64 * (j + 1) + self.w ≤ 64 * length self.words.now) }
+        ensures { (p : ℕ) → p < 64 → bit result p ≡ bit_at self.entry.words.now (64 * j + self.entry.w + p) }
+    {
+        let last = j + (self.w - 1) / 64;
+        following(self.words[last], self.words[last + 1], (self.w - 1) % 64)
     }
-    counts
-}
 
-// The ones of each of the eight runs of 64 positions past the window that starts with word j.
-pub fn entering_ones(words: &[u64], w: usize, j: usize) -> [usize; 8]
-    requires { (1 ≤ w) × (w ≤ most_width) × (j + 8 ≤ words_of most_bits) × (64 * (j + 8) + w ≤ 64 * length words.now) }
-    ensures { EightRuns words.now (64 * j + w) result }
-{
-    let mut counts = [0usize; 8];
-    for i in 0..8 {
-        counts[i] = ones_of(entering(words, w, j + i));
+    // The first start in word j whose window holds at least m ones. That of word j holds c; with the 64 positions past it, `most`: no window that starts in the
+    // word holds more. Only where `most` reaches m is the word read here, and its starts tried.
+    pub fn start_in_word(self, j: usize, c: usize, most: usize) -> Option<usize>
+        requires { (j ≤ words_of most_bits) × (64 * (j + 1) + self.w ≤ 64 * length self.words.now) × Holds self.words.now self.w (64 * j) c
+            × Holds self.words.now (self.w + 64) (64 * j) most }
+        ensures { StartIn self.entry.words.now self.entry.w self.entry.m (64 * j) (64 * (j + 1)) result }
+    {
+        if most < self.m {
+            return None;
+        }
+        let d = first_start(self.words[j], self.entering(j), c, self.m, 64)?;
+        Some(64 * j + d)
     }
-    counts
+
+    // The ones of each of the eight words from word j on.
+    // Kept: beside `entering_ones`: one function for both would take a closure for the word, and its promise would say of it what `EightRuns` says here.
+    pub fn leaving_ones(self, j: usize) -> [usize; 8]
+        requires { j + 8 ≤ length self.words.now }
+        ensures { EightRuns self.entry.words.now (64 * j) result }
+    {
+        let mut counts = [0usize; 8];
+        for i in 0..8 {
+            counts[i] = ones_of(self.words[j + i]);
+        }
+        counts
+    }
+
+    // The ones of each of the eight runs of 64 positions past the window that starts with word j.
+    pub fn entering_ones(self, j: usize) -> [usize; 8]
+        requires { (j + 8 ≤ words_of most_bits) × (64 * (j + 8) + self.w ≤ 64 * length self.words.now) }
+        ensures { EightRuns self.entry.words.now (64 * j + self.entry.w) result }
+    {
+        let mut counts = [0usize; 8];
+        for i in 0..8 {
+            counts[i] = ones_of(self.entering(j + i));
+        }
+        counts
+    }
 }

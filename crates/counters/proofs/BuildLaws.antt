@@ -1,11 +1,14 @@
 -- Laws of laying and checking: what a node's children hold, a node's counters from that, and the levels laid one above the other.
 -- Assumes nothing.
-use Rattle.std.proofs.Common.{◌≡◌, ℕ, zero, suc, ◌+◌, ◌-◌, ◌*◌, ◌%◌, ◌^◌, ◌<◌, ◌≤◌, Bool, true, false, not, ◌⊎◌, List, length, get_or, take, drop, set, sym, refl, ap, ◌∙◌, subst, ap₂, inl, inr, le_refl, mod-eq_of_lt, add-one, arith, lit<, length-set, get_or-set_other, below_more, le-ltb, lt-ltb, ne_eqb}
+use Rattle.std.proofs.Common.{◌≡◌, ℕ, zero, suc, ◌+◌, ◌-◌, ◌*◌, ◌%◌, ◌^◌, ◌<◌, ◌≤◌, Bool, true, false, not, ◌⊎◌, List, length, get_or, take, drop, set, sym, refl, ap, ◌∙◌, subst, ap₂, inl, inr, le_refl, mod-eq_of_lt, add-one, arith, lit<, length-set, get_or-set_other, below_more, le-ltb, lt-ltb, ne_eqb, eqb, ext_get_or, true≢false}
+use Rattle.std.specs.Cmp.Lexicographic.{pointwise}
+use Rattle.std.proofs.lemmas.Bool.Decides.{Decides-eqb}
+use Rattle.std.proofs.lemmas.Slice.Eq.{slice_eq-Decides}
 use mathlib.Core.Path.{fun_ext}
 use native.Mathlib.Nat.{mod-add-mod, add-mod}
 use borrow.Author.Tests.{not-true, not-false}
 use Rattle.words.specs.Bits.{bit_at, ones, list_of}
-use Rattle.words.proofs.Sums.{lt_or, sum_zero, sum_more, sum_split, sum_ext, ones_le, list_of_is, length_list_of, part_at_lem, get_or_list_of, stored_more}
+use Rattle.words.proofs.Sums.{lt_or, sum_zero, sum_more, sum_split, sum_ext, ones_le, list_of_is, part_at_lem, get_or_list_of, stored_more}
 use Rattle.words.proofs.WordLaws.{bit_at_le, bit_at_past, block_bit}
 use Rattle.counters.specs.Tree.{nodes, height, child_bits, child_ones, from_child, to_child, counter, index_of}
 use Rattle.counters.specs.Record.{AllFit}
@@ -15,15 +18,15 @@ use Rattle.counters.specs.declared.shape.Level.{Level}
 use Rattle.counters.proofs.TreeLaws.{nodes_zero, child_absent, child_bits_one, prefix_suc, from_summary, to_summary, from_key, to_key, from_to_lem, counter_children, start, start_zero, start_before, index_is, LevelAt, level_blocks, level_few, level_next, level_room, total_mono}
 use Rattle.counters.proofs.FitLaws.{fit_at, counter_ones}
 use Rattle.counters.proofs.AfreshLaws.{ones_bound, counter_lt}
-use Rattle.counters.proofs.SpliceLaws.{splice, splice_length, splice_below, splice_in, splice_above}
+use Rattle.counters.proofs.SpliceLaws.{part_length, splice, splice_length, splice_below, splice_in}
 
 -- ---- the ones of a block
 -- the words of block m hold its ones
-block_there : (ws : List ℕ) (m k : ℕ) → k ≡ 8 → ones (bit_at (take k (drop (8 * m) ws))) 512 ≡ child_ones (bit_at ws) 1 m
+block_there : (ws : List ℕ) (m : ℕ) → ones (bit_at (take 8 (drop (8 * m) ws))) 512 ≡ child_ones (bit_at ws) 1 m
 unfolding child_ones
-block_there ws m k e =
-    sum_ext (bit_at (take k (drop (8 * m) ws))) (λ p. bit_at ws (512 * m + p)) 512
-    (λ p h. block_bit ws m k p e h)
+block_there ws m =
+    sum_ext (bit_at (take 8 (drop (8 * m) ws))) (λ p. bit_at ws (512 * m + p)) 512
+    (λ p h. block_bit ws m 8 p refl h)
     ∙ ap (λ (b : ℕ). ones (λ p. bit_at ws (b * m + p)) b) (sym child_bits_one)
 
 -- a block holds at most 512 ones
@@ -81,8 +84,8 @@ module _ (ws xs : List ℕ) (t : ℕ) (l : Level) (m : ℕ) where
       go (suc s) R = sym (child_node ws xs s l m ∙ node_past xs l.start l.count m h)
 
   -- the words of a block hold its ones
-  pub child_block : (k : ℕ) → k ≡ 8 → t ≡ 0 → ones (bit_at (take k (drop (8 * m) ws))) 512 ≡ child_holds ws xs t l m
-  child_block k e z = block_there ws m k e ∙ sym (ap (λ (s : ℕ). child_holds ws xs s l m) z ∙ child_first ws xs l m)
+  pub child_block : t ≡ 0 → ones (bit_at (take 8 (drop (8 * m) ws))) 512 ≡ child_holds ws xs t l m
+  child_block z = block_there ws m ∙ sym (ap (λ (s : ℕ). child_holds ws xs s l m) z ∙ child_first ws xs l m)
 
   -- at most 512
   pub child_block_le : t ≡ 0 → child_holds ws xs t l m ≤ 512
@@ -103,10 +106,6 @@ module _ (ws xs : List ℕ) (t : ℕ) (l : Level) (ys : List ℕ) (agree : (x : 
   -- of a node
   pub children_same : (j : ℕ) → children_of (child_holds ws ys t l) j ≡ children_of (child_holds ws xs t l) j
   children_same j = ap (λ (h : ℕ → ℕ). children_of h j) (fun_ext (child_same t))
-
-  -- to be read as well
-  pub readable_same : length ys ≡ length xs → Readable ws xs t l → Readable ws ys t l
-  readable_same long R = record { few = R.few; blocks = R.blocks; nodes = (λ h. omega (arith, R.nodes h)) }
 
 -- ---- the counters of a node from its children's numbers
 -- the numbers of a list, summed
@@ -231,35 +230,26 @@ unfolding children_of
 children_are h ts j size each =
     sym (list_of_is (λ c. h (64 * j + c)) 64 ts size (λ c l. sym (each c l)))
 
--- a node laid over a part that was lent
-pub node_built : (ts xs ys : List ℕ) (at j k : ℕ) → k ≡ 72 → at + 72 * j + 72 ≤ length xs → length ys ≡ length (take k (drop (at + 72 * j) xs))
-    → ((i : ℕ) → i < 72 → get_or ys i 0 ≡ node_from ts i) → NodeBuilt ts at j xs (splice (at + 72 * j) k xs ys)
-node_built ts xs ys at j k is room kept made =
-    record {
-      inside = (λ i l. splice_in (at + 72 * j) k xs ys (omega arith) kept 0 (at + 72 * j + i) i refl (omega arith) ∙ made i l);
-      under = (λ x l. splice_below (at + 72 * j) k xs ys (omega arith) kept 0 x l);
-      over = (λ x l. splice_above (at + 72 * j) k xs ys (omega arith) kept 0 x (omega arith));
-    }
-
 -- a node, as a part of the counters, compared with what is laid for these numbers
-pub node_compared : (b : Bool) (ts xs ys : List ℕ) (at j k : ℕ) → k ≡ 72 → ((i : ℕ) → i < 72 → get_or ys i 0 ≡ node_from ts i)
-    → Decides b ((i : ℕ) → i < 72 → get_or (take k (drop (at + 72 * j) xs)) i 0 ≡ get_or ys i 0) → Decides b (NodeAt ts at j xs)
-node_compared true ts xs ys at j k is made d =
-    λ i l. sym (part_at_lem xs (at + 72 * j) k 0 i (omega arith)) ∙ d i l ∙ made i l
-node_compared false ts xs ys at j k is made d =
-    λ a. d (λ i l. part_at_lem xs (at + 72 * j) k 0 i (omega arith) ∙ a i l ∙ sym (made i l))
+pub node_compared : (b : Bool) (ts xs ys : List ℕ) (at j k : ℕ) → k ≡ 72 → at + 72 * j + 72 ≤ length xs → length ys ≡ 72
+    → ((i : ℕ) → i < 72 → get_or ys i 0 ≡ node_from ts i) → b ≡ pointwise eqb (take k (drop (at + 72 * j) xs)) ys → Decides b (NodeAt ts at j xs)
+node_compared b ts xs ys at j k is room long made e = go b (slice_eq-Decides Decides-eqb part ys b e)
+  where
+    part : List ℕ
+    part = take k (drop (at + 72 * j) xs)
 
--- no node yet
-pub level_none : (h : ℕ → ℕ) (xs : List ℕ) (at : ℕ) → LevelFrom h xs at 0
-level_none h xs at j l = absurd (omega arith)
+    size : length part ≡ 72
+    size = part_length xs (at + 72 * j) k (omega arith) ∙ is
+
+    go : (b : Bool) → (b ≡ true → part ≡ ys) × (part ≡ ys → b ≡ true) → Decides b (NodeAt ts at j xs)
+    go true d = λ i l. sym (part_at_lem xs (at + 72 * j) k 0 i (omega arith)) ∙ ap (λ (zs : List ℕ). get_or zs i 0) (d.0 refl) ∙ made i l
+    go false d = λ a.
+        true≢false
+        (sym (d.1 (ext_get_or 0 part ys (size ∙ sym long)
+        (λ i l. part_at_lem xs (at + 72 * j) k 0 i (omega (arith, size)) ∙ a i (omega (arith, size)) ∙ sym (made i (omega (arith, size)))))))
 
 -- node n, whose children have the numbers ts
 module _ (h : ℕ → ℕ) (ts : List ℕ) (n : ℕ) (are : ts ≡ children_of h n) where
-  -- they are 64
-  pub children_length : length ts ≡ 64
-  unfolding children_of
-  children_length = ap length are ∙ length_list_of (λ c. h (64 * n + c)) 64
-
   -- one node more
   level_more : (xs : List ℕ) (at : ℕ) → LevelFrom h xs at n → NodeAt ts at n xs → LevelFrom h xs at (n + 1)
   level_more xs at low here =
@@ -269,16 +259,6 @@ module _ (h : ℕ → ℕ) (ts : List ℕ) (n : ℕ) (are : ts ≡ children_of h
   pub level_built : {xs ys : List ℕ} {at : ℕ} → NodeBuilt ts at n xs ys → LevelFrom h xs at n → LevelFrom h ys at (n + 1)
   level_built {xs} {ys} {at} L low =
       level_more ys at (λ j l i q. L.under (at + 72 * j + i) (omega arith) ∙ low j l i q) L.inside
-
-  -- it is compared
-  module _ (xs : List ℕ) (at : ℕ) (b : Bool) (d : Decides b (NodeAt ts at n xs)) where
-    -- a node that is not as laid
-    pub level_no : (count : ℕ) → n < count → not b ≡ true → LevelFrom h xs at count → ⊥
-    level_no count l u built = decides_no b (NodeAt ts at n xs) d u (subst (λ (us : List ℕ). NodeAt us at n xs) (sym are) (built n l))
-
-    -- one node more is as laid
-    pub level_yes : not b ≡ false → LevelFrom h xs at n → LevelFrom h xs at (n + 1)
-    level_yes u low = level_more xs at low (decides_yes b (NodeAt ts at n xs) d u)
 
 -- what stands after a node that is laid stays
 pub level_keeps : (zs : List ℕ) (from : ℕ) {ts xs ys : List ℕ} {at n : ℕ} → NodeBuilt ts at n xs ys → at + 72 * n + 72 ≤ from

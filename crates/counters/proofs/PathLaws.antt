@@ -1,12 +1,13 @@
 -- The counters that count a stroke moved: eight lanes by their steps, one node, level by level. Assumes nothing.
-use Rattle.std.proofs.Common.{◌≡◌, ℕ, suc, ◌+◌, ◌-◌, ◌*◌, ◌/◌, ◌%◌, ◌^◌, ◌<◌, ◌≤◌, Bool, true, false, cond, ◌&&◌, ltb, leb, ◌⊎◌, List, ◌++◌, length, get_or, take, drop, set, replicate, sym, refl, ap, ◌∙◌, ap₂, inl, inr, add-one, arith, length-set, get_or-set_other, get_or-append-add, le-leb}
+use Rattle.std.proofs.Common.{◌≡◌, ℕ, suc, ◌+◌, ◌-◌, ◌*◌, ◌/◌, ◌%◌, ◌^◌, ◌<◌, ◌≤◌, Bool, true, false, cond, ◌&&◌, ltb, leb, ◌⊎◌, List, ◌++◌, length, get_or, take, drop, replicate, sym, refl, ap, ◌∙◌, ap₂, inl, inr, add-one, arith, get_or-append-add, le-leb}
 use lib.ListN.{get_or-replicate, get_or-append}
 use borrow.Author.Tests.{lt-leb}
 use Rattle.words.specs.Bits.{ones}
-use Rattle.words.proofs.Sums.{lt_or, sum_zero, sum_more, part_at_lem, stored_more}
+use Rattle.words.proofs.Sums.{lt_or, sum_zero, sum_more, part_at_lem}
 use Rattle.counters.specs.Tree.{nodes, height, from_child, to_child, counter_count, index_of, child_of, slot, counts, change_count}
 use Rattle.counters.specs.Working.{moved_by, counts_child, Steps, NodeMoved, Up, PathMovedBy}
 use Rattle.counters.specs.declared.shape.Climb.{Climb}
+use Rattle.counters.specs.declared.shape.Rise.{Rise}
 use Rattle.counters.proofs.TreeLaws.{child_of_one, child_of_suc, from_summary, to_summary, from_key, to_key, from_to_lem, start, index_is, ClimbAt, climb_up, climb_room, total_mono}
 use Rattle.counters.proofs.FlipLaws.{between_in, between_before, between_past, counts_before, counts_past}
 use Rattle.counters.proofs.SpliceLaws.{splice, splice_length, splice_below, splice_above, splice_each}
@@ -26,20 +27,6 @@ pub record Lanes (steps xs : List ℕ) (i : ℕ) (ys : List ℕ) : Type 0 where
   pub long : length ys ≡ length xs
   pub moved : (k : ℕ) → k < i → get_or ys k 0 ≡ (get_or xs k 0 + get_or steps k 0) % 2 ^ 32
   pub rest : (k : ℕ) → i ≤ k → get_or ys k 0 ≡ get_or xs k 0
-
--- none yet
-pub lanes_none : (steps xs : List ℕ) → Lanes steps xs 0 xs
-lanes_none steps xs = record { long = refl; moved = λ k h. absurd (omega arith); rest = λ k h. refl }
-
--- one more
-pub lanes_more : {steps xs : List ℕ} {i : ℕ} {ys : List ℕ} → Lanes steps xs i ys → i < length ys
-    → (v : ℕ) → v ≡ (get_or ys i 0 + get_or steps i 0) % 2 ^ 32 → Lanes steps xs (i + 1) (set ys i v)
-lanes_more {steps} {xs} {i} {ys} l h v sum =
-    record {
-      long = length-set ys i v ∙ l.long;
-      moved = stored_more (λ k. (get_or xs k 0 + get_or steps k 0) % 2 ^ 32) ys i v h l.moved (sum ∙ ap (λ (x : ℕ). (x + get_or steps i 0) % 2 ^ 32) (l.rest i (omega arith)));
-      rest = λ k q. get_or-set_other ys i k v 0 (λ w. omega arith) ∙ l.rest k (omega arith);
-    }
 
 -- ---- eight of the steps
 -- bound and number moved alike
@@ -212,10 +199,10 @@ child_of_more : (t p : ℕ) → child_of (t + 1 + 1) p ≡ child_of (t + 1) p / 
 child_of_more t p = simp add-one (child_of_suc t p)
 
 -- one level more: the node on the path was lent, and its counters that count the stroke's slot have come back moved
-pub moving_more : {n p d : ℕ} {xs : List ℕ} {t : ℕ} {ys : List ℕ} {c r : Climb} {number : ℕ} → Moving n p d xs t ys c number
+pub moving_more : {n p d : ℕ} {xs : List ℕ} {t : ℕ} {ys : List ℕ} {c : Climb} {r : Rise} {number : ℕ} → Moving n p d xs t ys c number
     → t < height n → length xs ≡ counter_count n → Up c r → (m more : ℕ) (ws : List ℕ) → m ≡ 72 → more ≡ 15 - r.slot % 8 - r.slot / 8
     → length ws ≡ length (take m (drop r.at ys)) → NodeMoved r.slot d (take m (drop r.at ys)) ws
-    → Moving n p d xs (t + 1) (splice r.at m ys ws) r (number + more)
+    → Moving n p d xs (t + 1) (splice r.at m ys ws) r.climb (number + more)
 moving_more {n} {p} {d} {xs} {t} {ys} {c} {r} {number} k lower size U m more ws long share-is kept each =
     record {
       climb = above;
@@ -230,16 +217,16 @@ moving_more {n} {p} {d} {xs} {t} {ys} {c} {r} {number} k lower size U m more ws 
     a : ℕ
     a = r.at
 
-    above : ClimbAt n (t + 1) r
+    above : ClimbAt n (t + 1) r.climb
     above = climb_up k.climb lower U
 
-    node : r.node ≡ child_of (t + 1 + 1) p
+    node : r.climb.node ≡ child_of (t + 1 + 1) p
     node = omega (arith, k.node_is, U.node_is, child_of_more t p)
 
     slot_is : r.slot ≡ slot (t + 1) p
     slot_is = omega (arith, k.node_is, U.slot_is)
 
-    at : a ≡ start n (t + 1) + 72 * r.node
+    at : a ≡ start n (t + 1) + 72 * r.climb.node
     at = omega (arith, U.at_is, above.level.starts)
 
     -- the new level ends where the one below starts
@@ -254,7 +241,7 @@ moving_more {n} {p} {d} {xs} {t} {ys} {c} {r} {number} k lower size U m more ws 
     old j i l h = k.rest (index_of n (t + 1) j i) (omega (arith, index_is n (t + 1) j i, before_end))
 
     -- the counters of the new level: before the node, past it, and its own
-    here : (j i : ℕ) → j < nodes n (t + 1) → i < 72 → (j < r.node) ⊎ (r.node ≤ j) → (r.node < j) ⊎ (j ≤ r.node)
+    here : (j i : ℕ) → j < nodes n (t + 1) → i < 72 → (j < r.climb.node) ⊎ (r.climb.node ≤ j) → (r.climb.node < j) ⊎ (j ≤ r.climb.node)
         → get_or (splice a m ys ws) (index_of n (t + 1) j i) 0 ≡ moved_by (counts (t + 1) j i p) d (get_or xs (index_of n (t + 1) j i) 0)
     here j i l h (inl o) q =
         splice_below a m ys ws fit kept 0 (index_of n (t + 1) j i) (omega (arith, index_is n (t + 1) j i, at))
@@ -273,7 +260,7 @@ moving_more {n} {p} {d} {xs} {t} {ys} {c} {r} {number} k lower size U m more ws 
 
     go : (s j i : ℕ) → 1 ≤ s → s ≤ t + 1 → j < nodes n s → i < 72 → (t < s) ⊎ (s ≤ t)
         → get_or (splice a m ys ws) (index_of n s j i) 0 ≡ moved_by (counts s j i p) d (get_or xs (index_of n s j i) 0)
-    go s j i b c l h (inl o) = let e : s ≡ t + 1 = omega arith in rw e (here j i (rw e at l) h (lt_or j r.node) (lt_or r.node j))
+    go s j i b c l h (inl o) = let e : s ≡ t + 1 = omega arith in rw e (here j i (rw e at l) h (lt_or j r.climb.node) (lt_or r.climb.node j))
     go s j i b c l h (inr o) =
         splice_above a m ys ws fit kept 0 (index_of n s j i) (omega (arith, index_is n s j i, total_mono n o, at, above.there, above.level.counted, before_end))
         ∙ k.moved s j i b o l h

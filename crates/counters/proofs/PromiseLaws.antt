@@ -10,8 +10,7 @@ use Rattle.words.specs.Calls.{value_line, below_line}
 use Rattle.words.specs.Working.{RangePut}
 use Rattle.words.specs.declared.handle.Handle.{Handle}
 use Rattle.words.specs.declared.refusal.Refusal.{Refusal}
-use Rattle.words.specs.declared.refusal.Verdict.{Verdict}
-use Rattle.words.specs.declared.refusal.Verdict.TheVariants.{Pass, Refuse}
+use Rattle.std.specs.Prelude.{Result, Ok, Err}
 use Rattle.words.proofs.Sums.{lt_or, rank_one}
 use Rattle.words.proofs.WordLaws.{bit_at_le, bit_at_past, holds_yes}
 use Rattle.words.proofs.SearchLaws.{rank_both, rank_ones}
@@ -28,8 +27,8 @@ use Rattle.counters.proofs.ChangeLaws as C
 
 -- ---- the cases of a promise
 -- refused by its table, as a function says that judged it
-pub promise_refused : {A : Type 0} (t : List Line) (refuse : ℕ → A) (late : A) (Fit : Type 0) (Loose : A → Type 0) (v : Verdict) (r : Refusal)
-    → verdict_of v ≡ judge t → v ≡ Refuse r → Promise A (judge t) refuse late Fit Loose (refuse (number_of r))
+pub promise_refused : {A : Type 0} (t : List Line) (refuse : ℕ → A) (late : A) (Fit : Type 0) (Loose : A → Type 0) (v : Result Unit Refusal) (r : Refusal)
+    → verdict_of v ≡ judge t → v ≡ Err r → Promise A (judge t) refuse late Fit Loose (refuse (number_of r))
 promise_refused t refuse late Fit Loose v r e d =
     let j : judge t ≡ some (number_of r) = judged_refuse t v r e d in
     record {
@@ -84,7 +83,7 @@ pub record PassedRecord (h : Handle) (ws cs : List ℕ) (ls : List Line) : Type 
   pub own : Passes ls
 
 -- by its verdict
-pub record_passed : (h : Handle) (ws cs : List ℕ) (ls : List Line) (v : Verdict) → verdict_of v ≡ judge (checks h (length ws) (length cs) ++ ls) → v ≡ Pass
+pub record_passed : (h : Handle) (ws cs : List ℕ) (ls : List Line) (v : Result Unit Refusal) → verdict_of v ≡ judge (checks h (length ws) (length cs) ++ ls) → v ≡ Ok tt
     → PassedRecord h ws cs ls
 record_passed h ws cs ls v e d =
     let p = judged_pass (checks h (length ws) (length cs) ++ ls) v e d in

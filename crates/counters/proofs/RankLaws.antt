@@ -1,5 +1,5 @@
 -- The laws of counting before a position: in a node, up the levels, and in a block. Assumes nothing.
-use Rattle.std.proofs.Common.{◌≡◌, ℕ, suc, ◌+◌, ◌-◌, ◌*◌, ◌/◌, ◌%◌, ◌<◌, ◌≤◌, List, get_or, take, drop, ap, ◌∙◌, ap₂, add-one, arith}
+use Rattle.std.proofs.Common.{◌≡◌, ℕ, suc, ◌+◌, ◌-◌, ◌*◌, ◌/◌, ◌%◌, ◌<◌, ◌≤◌, List, get_or, take, drop, refl, ap, ◌∙◌, ap₂, add-one, arith}
 use Rattle.words.specs.Bits.{bit_at, ones}
 use Rattle.words.proofs.Sums.{part_ones}
 use Rattle.words.proofs.WordLaws.{block_bit}
@@ -7,6 +7,7 @@ use Rattle.counters.specs.Tree.{nodes, height, from_child, to_child}
 use Rattle.counters.specs.Record.{AllFit}
 use Rattle.counters.specs.Working.{most_pair, TreeOver, Node, Up}
 use Rattle.counters.specs.declared.shape.Climb.{Climb}
+use Rattle.counters.specs.declared.shape.Rise.{Rise}
 use Rattle.counters.proofs.TreeLaws.{nodes_root, child_bits_one, prefix, prefix_zero, prefix_up, from_summary, to_summary, from_key, to_key, ClimbAt, climb_up}
 use Rattle.counters.proofs.FitLaws.{node_fits}
 
@@ -58,19 +59,19 @@ climbed_none n block xs c C e =
     }
 
 -- a level more, by what the node's counters give
-pub climbed_more : {n block : ℕ} {xs : List ℕ} {t : ℕ} {c r : Climb} {sum : ℕ} → Climbed n block xs t c sum → t < height n → Up c r
+pub climbed_more : {n block : ℕ} {xs : List ℕ} {t : ℕ} {c : Climb} {r : Rise} {sum : ℕ} → Climbed n block xs t c sum → t < height n → Up c r
     → (y w : ℕ) → y ≤ most_pair → w ≡ 72
     → ((B : ℕ → ℕ) (j : ℕ) → Node B j (take w (drop r.at xs)) → y + B (64 * j) ≡ B (64 * j + r.slot))
-    → Climbed n block xs (t + 1) r (sum + y)
+    → Climbed n block xs (t + 1) r.climb (sum + y)
 climbed_more {n} {block} {xs} {t} {c} {r} {sum} now lower U y w small wide gives =
     record { climb = climb_up now.climb lower U; small = omega (arith, now.small); counted = counted }
   where
-    next : ClimbAt n (suc t) r
+    next : ClimbAt n (suc t) r.climb
     next = rw (← add-one t) (climb_up now.climb lower U)
 
-    counted : (f : ℕ → ℕ) → AllFit f n xs → sum + y + prefix f (suc (t + 1)) r.node ≡ ones f (512 * block)
+    counted : (f : ℕ → ℕ) → AllFit f n xs → sum + y + prefix f (suc (t + 1)) r.climb.node ≡ ones f (512 * block)
     counted f fit =
-        let j : ℕ = r.node in
+        let j : ℕ = r.climb.node in
         let e : 64 * j + r.slot ≡ c.node = omega (arith, U.node_is, U.slot_is) in
         let step = gives (prefix f (suc t)) j
         (node_fits f n (suc t) j r.at w xs (λ i k. fit (suc t) i k (omega arith) lower)
@@ -88,6 +89,6 @@ climbed_done {n} {block} {xs} {t} {c} {sum} now top T f fit =
 
 -- ---- in a block
 -- the ones before position m of block b
-pub ones_in_block : (ws : List ℕ) (b m w : ℕ) → w ≡ 8 → m ≤ 512 → ones (bit_at ws) (512 * b + m) ≡ ones (bit_at ws) (512 * b) + ones (bit_at (take w (drop (8 * b) ws))) m
-ones_in_block ws b m w eight l =
-    part_ones (bit_at ws) (bit_at (take w (drop (8 * b) ws))) (512 * b) 512 m (λ p h. block_bit ws b w p eight h) l
+pub ones_in_block : (ws : List ℕ) (b m : ℕ) → m ≤ 512 → ones (bit_at ws) (512 * b + m) ≡ ones (bit_at ws) (512 * b) + ones (bit_at (take 8 (drop (8 * b) ws))) m
+ones_in_block ws b m l =
+    part_ones (bit_at ws) (bit_at (take 8 (drop (8 * b) ws))) (512 * b) 512 m (λ p h. block_bit ws b 8 p refl h) l

@@ -1,19 +1,17 @@
 -- What count, find and check give, by what the counters say of a strip. Assumes nothing.
-use Rattle.std.proofs.Common.{◌≡◌, ℕ, ◌*◌, ◌^◌, ◌<◌, ◌≤◌, Bool, true, false, not, ◌&&◌, eqb, List, [], ◌∷◌, ◌++◌, length, get_or, sym, refl, ap, ◌∙◌, subst, ap₂, subst₂, arith, ltb-false, eq-eqb, eqb-true}
-use mathlib.Core.Option.{Option, none}
+use Rattle.std.proofs.Common.{◌≡◌, ℕ, ◌*◌, ◌^◌, ◌<◌, ◌≤◌, Bool, true, false, not, ◌&&◌, eqb, List, [], ◌∷◌, ◌++◌, length, get_or, sym, refl, ap, ◌∙◌, ◌⊎◌, inl, inr, subst, ap₂, subst₂, arith, ltb-false, leb-false, eq-eqb, eqb-true}
+use Rattle.std.proofs.lemmas.Bool.{eqb-false}
+use mathlib.Core.Option.{Option, some, none}
 use Rattle.words.specs.Bits.{bit_at, ones, same}
-use Rattle.words.specs.Strip.{or_else, holds, rank_of, select_of, total_of, of_value, select}
-use Rattle.words.specs.Words.{place_in}
-use Rattle.words.specs.Refusals.{number_of, ◌⇒◌, judge, verdict_of, unless, Told, value, refused, found}
-use Rattle.words.specs.Calls.{value_line}
+use Rattle.words.specs.Strip.{strip_of, PastZero, or_else, holds, rank_of, select_of, total_of, of_value, select}
+use Rattle.words.specs.Refusals.{◌⇒◌, judge, unless, Told, value, refused, found}
+use Rattle.words.specs.Calls.{value_line, within_line, absent_line}
+use Rattle.words.specs.Working.{FirstFrom}
 use Rattle.words.specs.Handles.{handle, handle_of}
 use Rattle.words.specs.declared.handle.Handle.{Handle}
-use Rattle.words.specs.declared.refusal.Refusal.{Refusal}
-use Rattle.words.specs.declared.refusal.Verdict.{Verdict}
-use Rattle.words.specs.declared.refusal.Verdict.TheVariants.{Refuse}
-use Rattle.words.proofs.Sums.{ones_le, sum_mono}
-use Rattle.words.proofs.WordLaws.{bit_at_le}
-use Rattle.words.proofs.CheckLaws.{judge_append, refused_first, unless_refused, line_found, passes, passed_both}
+use Rattle.words.proofs.Sums.{lt_or, ones_le, sum_mono, sum_flat}
+use Rattle.words.proofs.WordLaws.{bit_at_le, bit_at_past}
+use Rattle.words.proofs.CheckLaws.{judge_append, same_some, line_found, passes, passed_both}
 use Rattle.words.proofs.BoolLaws.{and_intro, and_first, and_second}
 use Rattle.words.proofs.SameLaws.{same_eq, same_refl}
 use Rattle.words.proofs.SearchLaws.{select_below, select_longer, value_rank, value_found, value_absent, value_le}
@@ -21,51 +19,72 @@ use Rattle.words.proofs.StripLaws.{strip_length, strip_rank, strip_total, strip_
 use Rattle.counters.specs.Tree.{blocks_of}
 use Rattle.counters.specs.Record.{Fits, AllFit, packed_words, built_counters}
 use Rattle.counters.specs.Promises.{AtMost, PlaceBelow}
+use Rattle.counters.specs.Working.{OnesHeld}
 use Rattle.counters.specs.Calls.{checks, held_strip, rank_table, Ranked, select_table, Selected, fitting, verify_table, verify_told}
-use Rattle.counters.proofs.PromiseLaws.{promise_passed, promise_exact, Sizes, sizes}
+use Rattle.counters.proofs.PromiseLaws.{promise_passed, promise_exact, Sizes, sizes, PassedRecord}
 use Rattle.counters.proofs.AfreshLaws.{built_fits, fits_total, fits_built}
 
 -- ---- count
-module _ (h : Handle) (ws cs : List ℕ) (v i x : ℕ) (small : v ≤ 1) (within : i ≤ h.length)
-    (pass : judge (rank_table h (length ws) (length cs) v i) ≡ none)
+module _ (h : Handle) (ws cs : List ℕ) (v i x : ℕ) (p : PassedRecord h ws cs (value_line v ∷ within_line h.length i ∷ []))
     (counted : AllFit (bit_at ws) (blocks_of h.capacity) cs → x ≡ ones (bit_at ws) i) where
+  small : v ≤ 1
+  small = ltb-false 1 v p.own.0
+
+  within : i ≤ h.length
+  within = ltb-false h.length i p.own.1.0
+
   pub rank_done : (r : ℕ) → x ≤ i → r ≡ of_value v i x → Ranked h v i ws cs (value r)
   rank_done r le e =
-      promise_passed (rank_table h (length ws) (length cs) v i) _ _ (Fits h ws cs) _ (value r) pass
+      promise_passed (rank_table h (length ws) (length cs) v i) _ _ (Fits h ws cs) _ (value r) p.table
       (λ f. ap value (e ∙ ap (of_value v i) (counted f.right) ∙ value_rank (bit_at ws) v i (bit_at_le ws) small ∙ sym (strip_rank ws h.length v i within)))
       (AtMost.is r (omega (arith, e, value_le v i x le)))
 
   pub rank_unfit : i < x → Ranked h v i ws cs (refused 9)
   rank_unfit l =
-      promise_passed (rank_table h (length ws) (length cs) v i) _ _ (Fits h ws cs) _ (refused 9) pass
+      promise_passed (rank_table h (length ws) (length cs) v i) _ _ (Fits h ws cs) _ (refused 9) p.table
       (λ f. absurd (omega (arith, counted f.right, ones_le (bit_at ws) i (bit_at_le ws))))
       AtMost.unfit
 
 -- ---- find
-module _ (h : Handle) (ws cs : List ℕ) (v k p : ℕ) (z : Sizes h ws cs) (small : v ≤ 1)
-    (pass : judge (select_table h (length ws) (length cs) v k) ≡ none) (more : k < of_value v h.length h.total)
-    (place : AllFit (bit_at ws) (blocks_of h.capacity) cs → k < rank_of (bit_at ws) v (512 * blocks_of h.capacity)
-    → p ≡ place_in (512 * blocks_of h.capacity) (select_of (bit_at ws) (512 * blocks_of h.capacity) v k)) where
-  -- on a fitting record the position that the counters lead to is the stroke's
-  place_is : Fits h ws cs → (found (select (held_strip h ws) v k) ≡ value p) × (p < h.length)
-  place_is f =
-      let w = value_found (bit_at ws) h.length v k h.total (bit_at_le ws) small (fits_total h ws cs f) more in
+module _ (h : Handle) (ws cs : List ℕ) (v k : ℕ) (d : PassedRecord h ws cs (value_line v ∷ absent_line (of_value v h.length h.total) k ∷ [])) where
+  -- on a fitting record the stroke is there, below the length
+  there : Fits h ws cs
+      → (p : ℕ) × (found (select (held_strip h ws) v k) ≡ value p) × (p < h.length) × (k < rank_of (bit_at ws) v (512 * blocks_of h.capacity))
+      × (select_of (bit_at ws) (512 * blocks_of h.capacity) v k ≡ some p)
+  there f =
+      let w = value_found (bit_at ws) h.length v k h.total (bit_at_le ws) (ltb-false 1 v d.own.0) (fits_total h ws cs f) (leb-false _ _ d.own.1.0) in
       let few : k < rank_of (bit_at ws) v h.length = select_below (bit_at ws) h.length v k w.0 w.1 in
-      let le : h.length ≤ 512 * blocks_of h.capacity = omega (arith, z.step, z.long) in
-      let many : k < rank_of (bit_at ws) v (512 * blocks_of h.capacity) = omega (arith, few, sum_mono (holds (bit_at ws) v) le) in
-      let e : p ≡ w.0 =
-      place f.right many
-      ∙ ap (place_in (512 * blocks_of h.capacity)) (select_longer (bit_at ws) h.length (512 * blocks_of h.capacity) v k le few ∙ w.1) in
-      (ap found (strip_select ws h.length v k ∙ w.1) ∙ ap value (sym e), omega (arith, e, w.2))
+      let le : h.length ≤ 512 * blocks_of h.capacity = omega (arith, d.known.step, d.known.long) in (
+        w.0,
+        ap found (strip_select ws h.length v k ∙ w.1),
+        w.2,
+        omega (arith, few, sum_mono (holds (bit_at ws) v) le),
+        select_longer (bit_at ws) h.length (512 * blocks_of h.capacity) v k le few ∙ w.1,
+      )
 
-  pub select_done : p < h.length → Selected h v k ws cs (value p)
-  select_done l =
-      promise_passed (select_table h (length ws) (length cs) v k) _ _ (Fits h ws cs) _ (value p) pass (λ f. sym (place_is f).0) (PlaceBelow.is p l)
+  -- not found, where the record does not fit
+  pub select_unfit : (Fits h ws cs → ⊥) → Selected h v k ws cs (refused 9)
+  select_unfit no-fit =
+      promise_passed (select_table h (length ws) (length cs) v k) _ _ (Fits h ws cs) _ (refused 9) d.table (λ f. absurd (no-fit f)) PlaceBelow.unfit
 
-  pub select_past : h.length ≤ p → Selected h v k ws cs (refused 9)
-  select_past l =
-      promise_passed (select_table h (length ws) (length cs) v k) _ _ (Fits h ws cs) _ (refused 9) pass
-      (λ f. absurd (omega (arith, (place_is f).1))) PlaceBelow.unfit
+  pub select_none : (AllFit (bit_at ws) (blocks_of h.capacity) cs → k < rank_of (bit_at ws) v (512 * blocks_of h.capacity) → ⊥) → Selected h v k ws cs (refused 9)
+  select_none nowhere = select_unfit (λ f. nowhere f.right (there f).3)
+
+  -- the position that the counters lead to is the stroke's
+  module _ (p : ℕ)
+      (place : AllFit (bit_at ws) (blocks_of h.capacity) cs → k < rank_of (bit_at ws) v (512 * blocks_of h.capacity)
+      → select_of (bit_at ws) (512 * blocks_of h.capacity) v k ≡ some p) where
+    same_place : (f : Fits h ws cs) → (there f).0 ≡ p
+    same_place f =
+        same_some (select_of (bit_at ws) (512 * blocks_of h.capacity) v k) (there f).0 p (there f).4 (place f.right (there f).3)
+
+    pub select_done : p < h.length → Selected h v k ws cs (value p)
+    select_done l =
+        promise_passed (select_table h (length ws) (length cs) v k) _ _ (Fits h ws cs) _ (value p) d.table
+        (λ f. sym ((there f).1 ∙ ap value (same_place f))) (PlaceBelow.is p l)
+
+    pub select_past : h.length ≤ p → Selected h v k ws cs (refused 9)
+    select_past l = select_unfit (λ f. omega (arith, same_place f, (there f).2))
 
 -- on a fitting record the answer is the definition's for every k: 6 is given where there is no such stroke, and nowhere else
 pub select_fits : (h : Handle) (ws cs : List ℕ) (v k : ℕ) (o : Told) → Fits h ws cs → Selected h v k ws cs o
@@ -104,6 +123,43 @@ fitting_fits h ws cs z e =
     (sym (same_eq cs (built_counters c s) (and_first b d rest))) g in
     record { clean = k.clean; right = k.right; held = eqb-true _ _ (and_second b d rest) }
 
+-- it fails where the record does not fit
+pub unfit_fitting : (h : Handle) (ws cs : List ℕ) → Sizes h ws cs → (Fits h ws cs → ⊥) → fitting h ws cs ≡ false
+unfit_fitting h ws cs z no-fit = go (fitting h ws cs) refl
+  where
+    go : (b : Bool) → fitting h ws cs ≡ b → fitting h ws cs ≡ false
+    go true e = absurd (no-fit (fitting_fits h ws cs z e))
+    go false e = e
+
+-- no one found from the length on: no bit stands past it
+pub none_past : (h : Handle) (ws cs : List ℕ) → Sizes h ws cs → FirstFrom (bit_at ws) h.capacity 1 h.length h.capacity → PastZero ws h.length
+none_past h ws cs z next p l = go (lt_or p h.capacity)
+  where
+    go : (p < h.capacity) ⊎ (h.capacity ≤ p) → bit_at ws p ≡ 0
+    go (inl b) = zero (lt_or (bit_at ws p) 1)
+      where
+        zero : (bit_at ws p < 1) ⊎ (1 ≤ bit_at ws p) → bit_at ws p ≡ 0
+        zero (inl q) = omega arith
+        zero (inr q) = absurd (next.clear p l b (omega (arith, bit_at_le ws p)))
+    go (inr b) = bit_at_past ws p (omega (arith, z.words, z.step))
+
+-- what the root tells, where the counters fit and no bit stands past the length: the ones of the strip
+pub root_total : (h : Handle) (ws cs : List ℕ) (r : ℕ) → Sizes h ws cs → AllFit (bit_at ws) (blocks_of h.capacity) cs → PastZero ws h.length
+    → OnesHeld (blocks_of h.capacity) cs r → r ≡ total_of (strip_of ws h.length)
+root_total h ws cs r z right clean held =
+    let whole : 512 * blocks_of h.capacity ≡ h.capacity = omega (arith, z.step) in
+    held (bit_at ws) right (λ p l. clean p (omega (arith, whole, z.long)))
+    ∙ ap (ones (bit_at ws)) whole ∙ sum_flat (bit_at ws) h.length h.capacity z.long clean ∙ sym (strip_total ws h.length)
+
+-- where all else fits, the total decides
+pub total_fitting : (h : Handle) (ws cs : List ℕ) (r : ℕ) → Sizes h ws cs → ((k : ℕ) → get_or ws k 0 < 2 ^ 64) → PastZero ws h.length
+    → AllFit (bit_at ws) (blocks_of h.capacity) cs → r ≡ total_of (held_strip h ws) → eqb r h.total ≡ fitting h ws cs
+total_fitting h ws cs r z small clean right e = go (eqb r h.total) refl
+  where
+    go : (b : Bool) → eqb r h.total ≡ b → b ≡ fitting h ws cs
+    go true q = sym (fits_fitting h ws cs z small (record { clean = clean; right = right; held = sym (eqb-true _ _ q) ∙ e }))
+    go false q = sym (unfit_fitting h ws cs z (λ f. eqb-false r h.total q (e ∙ sym f.held)))
+
 -- the table, where the checks pass, by the test
 verify_judged : (h : Handle) (ws cs : List ℕ) (b : Bool) → judge (checks h (length ws) (length cs)) ≡ none → fitting h ws cs ≡ b
     → judge (verify_table h ws cs) ≡ judge ((not b ⇒ 9) ∷ [])
@@ -111,22 +167,20 @@ verify_judged h ws cs b j e =
     judge_append (checks h (length ws) (length cs)) ((not (fitting h ws cs) ⇒ 9) ∷ [])
     ∙ ap₂ (λ (o : Option ℕ) (t : Bool). or_else o (judge ((not t ⇒ 9) ∷ []))) j e
 
-pub verify_refused : (h : Handle) (ws cs : List ℕ) (w : Verdict) (r : Refusal) → verdict_of w ≡ judge (checks h (length ws) (length cs)) → w ≡ Refuse r
-    → refused (number_of r) ≡ verify_told h ws cs
-verify_refused h ws cs w r e d =
-    unless_refused (verify_table h ws cs) w r refused (value (total_of (held_strip h ws)))
-    (refused_first (checks h (length ws) (length cs)) ((not (fitting h ws cs) ⇒ 9) ∷ []) w r e d) d
+pub told_unfit : (h : Handle) (ws cs : List ℕ) → judge (checks h (length ws) (length cs)) ≡ none → fitting h ws cs ≡ false → refused 9 ≡ verify_told h ws cs
+told_unfit h ws cs j e = sym (ap (λ (o : Option ℕ). unless o refused (value (total_of (held_strip h ws)))) (verify_judged h ws cs false j e))
 
+pub told_fits : (h : Handle) (ws cs : List ℕ) → judge (checks h (length ws) (length cs)) ≡ none → fitting h ws cs ≡ true
+    → value h.total ≡ verify_told h ws cs
+told_fits h ws cs j e =
+    ap value (fitting_fits h ws cs (sizes h ws cs j) e).held
+    ∙ sym (ap (λ (o : Option ℕ). unless o refused (value (total_of (held_strip h ws)))) (verify_judged h ws cs true j e))
+
+-- so where the record does not fit, and where it does
 pub verify_unfit : (h : Handle) (ws cs : List ℕ) → judge (checks h (length ws) (length cs)) ≡ none → (Fits h ws cs → ⊥) → refused 9 ≡ verify_told h ws cs
-verify_unfit h ws cs j no-fit = go (fitting h ws cs) refl
-  where
-    go : (b : Bool) → fitting h ws cs ≡ b → refused 9 ≡ verify_told h ws cs
-    go true e = absurd (no-fit (fitting_fits h ws cs (sizes h ws cs j) e))
-    go false e = sym (ap (λ (o : Option ℕ). unless o refused (value (total_of (held_strip h ws)))) (verify_judged h ws cs false j e))
+verify_unfit h ws cs j no-fit = told_unfit h ws cs j (unfit_fitting h ws cs (sizes h ws cs j) no-fit)
 
 pub verify_fits : (h : Handle) (ws cs : List ℕ) (x : ℕ) → judge (checks h (length ws) (length cs)) ≡ none → ((k : ℕ) → get_or ws k 0 < 2 ^ 64) → Fits h ws cs
     → x ≡ ones (bit_at ws) h.length → value x ≡ verify_told h ws cs
 verify_fits h ws cs x j small f e =
-    ap value (e ∙ sym (strip_total ws h.length))
-    ∙ sym (ap (λ (o : Option ℕ). unless o refused (value (total_of (held_strip h ws))))
-    (verify_judged h ws cs true j (fits_fitting h ws cs (sizes h ws cs j) small f)))
+    ap value (e ∙ sym (strip_total ws h.length) ∙ sym f.held) ∙ told_fits h ws cs j (fits_fitting h ws cs (sizes h ws cs j) small f)

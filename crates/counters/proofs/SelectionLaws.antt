@@ -1,6 +1,7 @@
 -- The laws of select: the v among bits of which the ones are counted, the child of a node that holds the k-th v, the way down, and the position.
 -- Each holds for both values and all levels. Assumes nothing.
-use Rattle.std.proofs.Common.{◌≡◌, ℕ, zero, suc, ◌+◌, ◌-◌, ◌*◌, ◌/◌, ◌<◌, ◌≤◌, ◌⊎◌, List, get_or, take, drop, sym, ap, ◌∙◌, subst, inl, inr, zero-le, le_refl, add-zero, mul_assoc, mul-one, mul-add, mul_left_comm, arith, lit<, le-leb}
+use Rattle.std.proofs.Common.{◌≡◌, ℕ, zero, suc, ◌+◌, ◌-◌, ◌*◌, ◌/◌, ◌<◌, ◌≤◌, ◌⊎◌, List, get_or, take, drop, sym, refl, ap, ◌∙◌, subst, inl, inr, zero-le, le_refl, add-zero, mul_assoc, mul-one, mul-add, mul_left_comm, arith, lit<, le-leb}
+use mathlib.Core.Option.{some}
 use native.Mathlib.Nat.{mul-div_cancel_left}
 use borrow.Author.Tests.{lt-leb}
 use Rattle.words.specs.Bits.{bit_at, ones}
@@ -9,7 +10,7 @@ use Rattle.words.specs.Words.{place_in}
 use Rattle.words.specs.Working.{at_most}
 use Rattle.words.proofs.Sums.{lt_or, sum_more, sum_mono}
 use Rattle.words.proofs.WordLaws.{block_bit}
-use Rattle.words.proofs.SearchLaws.{Reached, reached, rank_ones, rank_both, rank_part, part_select}
+use Rattle.words.proofs.SearchLaws.{Reached, reached, rank_ones, rank_both, rank_part, part_select, place_in_below}
 use Rattle.counters.specs.Tree.{nodes, height, child_bits, from_child, to_child, counter_count}
 use Rattle.counters.specs.Record.{AllFit}
 use Rattle.counters.specs.declared.shape.Level.{Level}
@@ -228,14 +229,15 @@ module _ (n v k : ℕ) (xs : List ℕ) where
 -- ---- the position
 
 -- in block b, which holds the k-th v
-pub block_place : (ws : List ℕ) (n b v k left m r : ℕ) → m ≡ 8 → b < n → FoundIn (values_before (bit_at ws) v 1) k b left
-    → r ≡ place_in 512 (select_of (bit_at (take m (drop (8 * b) ws))) 512 v left)
-    → (r < 512) × (512 * b + r ≡ place_in (512 * n) (select_of (bit_at ws) (512 * n) v k))
-block_place ws n b v k left m r e h s er =
+pub block_place : (ws : List ℕ) (n b v k left r : ℕ) → b < n → FoundIn (values_before (bit_at ws) v 1) k b left
+    → r ≡ place_in 512 (select_of (bit_at (take 8 (drop (8 * b) ws))) 512 v left)
+    → (r < 512) × (select_of (bit_at ws) (512 * n) v k ≡ some (512 * b + r))
+block_place ws n b v k left r h s er =
     let f : ℕ → ℕ = bit_at ws in
-    let g : ℕ → ℕ = bit_at (take m (drop (8 * b) ws)) in
-    let part : (p : ℕ) → p < 512 → g p ≡ f (512 * b + p) = λ p l. block_bit ws b m p e l in
+    let g : ℕ → ℕ = bit_at (take 8 (drop (8 * b) ws)) in
+    let part : (p : ℕ) → p < 512 → g p ≡ f (512 * b + p) = λ p l. block_bit ws b 8 p refl l in
     let low : values_before f v 1 b ≡ rank_of f v (512 * b) = ap (λ (w : ℕ). rank_of f v (w * b)) child_bits_one in
     let high : values_before f v 1 (b + 1) ≡ rank_of f v (512 * b + 512) = ap (λ (w : ℕ). rank_of f v (w * (b + 1))) child_bits_one ∙ ap (rank_of f v) (times_more 512 b) in
-    let some : left < rank_of g v 512 = omega (arith, s.under, s.over, rank_part f g (512 * b) 512 v 512 part (le_refl 512)) in
-    part_select f g (512 * b) 512 (512 * n) v k left r part (omega arith) (omega (arith, s.under)) some er
+    let more : left < rank_of g v 512 = omega (arith, s.under, s.over, rank_part f g (512 * b) 512 v 512 part (le_refl 512)) in
+    let here = part_select f g (512 * b) 512 (512 * n) v k left r part (omega arith) (omega (arith, s.under)) more er in
+    (here.0, place_in_below f (512 * n) (512 * n) v k (512 * b + r) (le_refl (512 * n)) here.1 (omega (arith, here.0)))

@@ -7,6 +7,7 @@ use Rattle.words.specs.Bits.{ones}
 use Rattle.words.proofs.Sums.{lt_or, sum_zero, sum_suc, sum_split, sum_mono, sum_none}
 use Rattle.counters.specs.declared.shape.Level.{Level}
 use Rattle.counters.specs.declared.shape.Climb.{Climb}
+use Rattle.counters.specs.declared.shape.Rise.{Rise}
 use Rattle.counters.specs.Working.{most_blocks, TreeOver, nodes_over, RoomAbove, Above, Up}
 use Rattle.counters.specs.Tree.{nodes, height, child_bits, child_ones, children_ones, summary, key, counter, from_child, to_child, total, counter_count, index_of, child_of}
 
@@ -315,9 +316,9 @@ module _ {n t : ℕ} {c : Climb} (C : ClimbAt n t c) (lower : t < height n) wher
   pub climb_ready : {xs : List ℕ} → TreeOver n xs → RoomAbove c.level × (c.node < c.level.count)
   climb_ready T = ((level_few C.level T, (level_room C.level lower).0), C.there)
 
-  module _ {r : Climb} (U : Up c r) where
+  module _ {r : Rise} (U : Up c r) where
     -- to a node of that level
-    pub climb_up : ClimbAt n (t + 1) r
+    pub climb_up : ClimbAt n (t + 1) r.climb
     climb_up = record { level = level_next C.level lower U.level; there = omega (arith, C.there, U.node_is, U.level.counted) }
 
     -- whose counters are there

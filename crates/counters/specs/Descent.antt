@@ -1,13 +1,14 @@
 -- Derived, for the inner contracts of select: the v before a child, and the child that holds the k-th v. Laws in proofs/ tie them to the definitions.
 -- Assumes nothing.
-use Rattle.std.specs.Prelude.{◌≡◌, ℕ, ◌+◌, ◌-◌, ◌*◌, ◌^◌, ◌<◌, ◌≤◌, List, slice_index}
+use Rattle.std.specs.Prelude.{◌≡◌, ℕ, ◌+◌, ◌-◌, ◌*◌, ◌^◌, ◌<◌, ◌≤◌, List, slice_index, Option, MatchOption}
+use Rattle.std.proofs.Math.Option.{some}
 use Rattle.words.specs.Bits.{bit_at, ones}
 use Rattle.words.specs.Handles.{block_bits}
 use Rattle.words.specs.Strip.{rank_of, select_of}
-use Rattle.words.specs.Words.{place_in}
 use Rattle.words.specs.Working.{at_most}
 use Rattle.counters.specs.Tree.{child_bits, from_child, to_child}
 use Rattle.counters.specs.Record.{AllFit}
+use Rattle.counters.specs.declared.descent.Spot.{Spot}
 
 -- the bits of a child at level 3, the highest
 abbrev pub most_child_bits : ℕ
@@ -52,12 +53,19 @@ ChildWith v size xs at k c left =
 abbrev pub values_before : (f : ℕ → ℕ) (v t m : ℕ) → ℕ
 values_before f v t m = rank_of f v (child_bits t * m)
 
--- where the counters fit bits that hold a k-th v in n blocks, it lies in block b, with `left` of v before it there
-abbrev pub BlockWith : (n v : ℕ) (xs : List ℕ) (k b left : ℕ) → Type 0
-BlockWith n v xs k b left =
-    (f : ℕ → ℕ) → ((p : ℕ) → f p ≤ 1) → AllFit f n xs → k < rank_of f v (512 * n) → (b < n) × FoundIn (values_before f v 1) k b left
+-- for all bits that the counters fit and that hold a k-th v in n blocks
+abbrev pub WhereFit : (n v : ℕ) (xs : List ℕ) (k : ℕ) → ((ℕ → ℕ) → Type 0) → Type 0
+WhereFit n v xs k P = (f : ℕ → ℕ) → ((p : ℕ) → f p ≤ 1) → AllFit f n xs → k < rank_of f v (512 * n) → P f
 
--- r is at most 512 n, and where the counters fit the words, which hold a k-th v in n blocks, r is its position
-abbrev pub PositionOf : (n v : ℕ) (ws xs : List ℕ) (k r : ℕ) → Type 0
-PositionOf n v ws xs k r =
-    (r ≤ 512 * n) × (AllFit (bit_at ws) n xs → k < rank_of (bit_at ws) v (512 * n) → r ≡ place_in (512 * n) (select_of (bit_at ws) (512 * n) v k))
+-- where the counters fit bits that hold a k-th v in n blocks, it lies in the block found, with `left` of v before it there; none is found only where they
+-- fit no such bits
+abbrev pub BlockWith : (n v : ℕ) (xs : List ℕ) (k : ℕ) → Option Spot → Type 0
+BlockWith n v xs k o =
+    MatchOption o (WhereFit n v xs k (λ f. ⊥))
+    (λ s. (s.index < n) × WhereFit n v xs k (λ f. FoundIn (values_before f v 1) k s.index s.left))
+
+-- where the counters fit the words, which hold a k-th v in n blocks, its position is found; none is found only where they do not
+abbrev pub PositionOf : (n v : ℕ) (ws xs : List ℕ) (k : ℕ) → Option ℕ → Type 0
+PositionOf n v ws xs k o =
+    MatchOption o (AllFit (bit_at ws) n xs → k < rank_of (bit_at ws) v (512 * n) → ⊥)
+    (λ r. (r < 512 * n) × (AllFit (bit_at ws) n xs → k < rank_of (bit_at ws) v (512 * n) → select_of (bit_at ws) (512 * n) v k ≡ some r))

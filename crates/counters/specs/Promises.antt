@@ -1,13 +1,12 @@
 -- The forms of a promise: what a call gives with the lent buffers, and the promise of a call with a free part. Assumes nothing.
-use Rattle.std.specs.Prelude.{◌≡◌, ℕ, ◌<◌, ◌≤◌, false, List, length, ◌≢◌, slice_index}
+use Rattle.std.specs.Prelude.{◌≡◌, ℕ, ◌<◌, ◌≤◌, false, List, length, ◌≢◌, slice_index, Result, Ok, Err}
 use Rattle.std.proofs.Math.Option.{Option, some, none}
 use Rattle.words.specs.Bits.{bit_at}
 use Rattle.words.specs.Refusals.{number_of, Told, value, refused}
 use Rattle.words.specs.declared.handle.Handle.{Handle}
-use Rattle.counters.specs.declared.answer.Created.{Created}
-use Rattle.counters.specs.declared.answer.Created.TheVariants as created_reply
-use Rattle.counters.specs.declared.answer.Changed.{Changed}
-use Rattle.counters.specs.declared.answer.Changed.TheVariants as changed_reply
+use Rattle.words.specs.declared.refusal.Refusal.{Refusal}
+use Rattle.counters.specs.declared.answer.Laid.{Laid}
+use Rattle.counters.specs.declared.answer.Change.{Change}
 use Rattle.counters.specs.Tree.{blocks_of, nodes, height, index_of, counts}
 
 -- what lay tells: the handle and the number of counters, or the number of a refusal
@@ -15,18 +14,19 @@ pub data CreatedTold : Type 0 where
   created : Handle → ℕ → CreatedTold
   uncreated : ℕ → CreatedTold
 
-abbrev pub created_of : Created → CreatedTold
-created_of (created_reply.Done h x) = created h x
-created_of (created_reply.Refused r) = uncreated (number_of r)
+abbrev pub created_of : Result Laid Refusal → CreatedTold
+created_of (Ok l) = created l.handle l.counters
+created_of (Err r) = uncreated (number_of r)
 
 -- what a change tells: the handle to go on with and what the call answers, or the handle that it got and the number of a refusal
 pub data ChangedTold : Type 0 where
   done : Handle → ℕ → ℕ → ChangedTold
   kept : Handle → ℕ → ChangedTold
 
-abbrev pub changed_of : Changed → ChangedTold
-changed_of (changed_reply.Done h x y) = done h x y
-changed_of (changed_reply.Refused h r) = kept h (number_of r)
+-- by the handle that the call got
+abbrev pub changed_of : Handle → Result Change Refusal → ChangedTold
+changed_of h (Ok c) = done c.handle c.first c.second
+changed_of h (Err r) = kept h (number_of r)
 
 -- with the words and counters as the call leaves them
 pub record Outcome (A : Type 0) : Type 0 where

@@ -4,6 +4,7 @@ use Rattle.std.specs.Prelude.{◌≡◌, ℕ, ◌+◌, ◌-◌, ◌*◌, ◌/◌
 use Rattle.words.specs.Bits.{sum_to, ones}
 use Rattle.counters.specs.declared.shape.Level.{Level}
 use Rattle.counters.specs.declared.shape.Climb.{Climb}
+use Rattle.counters.specs.declared.shape.Rise.{Rise}
 use Rattle.words.specs.Handles.{most_bits}
 use Rattle.counters.specs.Tree.{blocks_of, nodes, height, from_child, to_child, counter, counter_count, index_of, counts}
 use Rattle.counters.specs.Record.{AllFit}
@@ -31,11 +32,11 @@ pub record Above (l r : Level) : Type 0 where
   pub counted : r.count ≡ nodes_over l.count
   pub ends : r.start + 72 * r.count ≡ l.start
 
--- r is one level above c, at the node over c's, which is a child of it in this slot
-pub record Up (c r : Climb) : Type 0 where
-  pub level : Above c.level r.level
-  pub node_is : r.node ≡ c.node / 64
-  pub at_is : r.at ≡ r.level.start + 72 * r.node
+-- r leads one level above c, to the node over c's, which is a child of it in this slot
+pub record Up (c : Climb) (r : Rise) : Type 0 where
+  pub level : Above c.level r.climb.level
+  pub node_is : r.climb.node ≡ c.node / 64
+  pub at_is : r.at ≡ r.climb.level.start + 72 * r.climb.node
   pub slot_is : r.slot ≡ c.node % 64
 
 -- the most that two counters give together

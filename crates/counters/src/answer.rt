@@ -1,16 +1,17 @@
 // What the calls that change a record answer.
-use words::{Handle, Refusal};
+use words::Handle;
 
-// The answer of laying a record: its handle and the number of counters.
-#[derive(Clone, Copy)]
-pub enum Created {
-    Done(Handle, u64),
-    Refused(Refusal),
+// What laying a record gives: its handle and the number of its counters.
+#[derive(Clone, Copy, Debug, PartialEq, Eq, Hash)]
+pub struct Laid {
+    pub handle: Handle,
+    pub counters: u64,
 }
 
-// The answer of a change: the handle to go on with, and what the call answers; a second number where there is one, else 0.
-#[derive(Clone, Copy)]
-pub enum Changed {
-    Done(Handle, u64, u64),
-    Refused(Handle, Refusal),
+// What a change gives: the handle to go on with, and what the call answers; a second number where there is one, else 0.
+#[derive(Clone, Copy, Debug, PartialEq, Eq, Hash)]
+pub struct Change {
+    pub handle: Handle,
+    pub first: u64,
+    pub second: u64,
 }

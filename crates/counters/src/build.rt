@@ -5,9 +5,10 @@ ghost use Rattle.counters.specs.Record.{AllFit};
 ghost use Rattle.counters.specs.Working.{most_blocks, TreeOver, node_from, GroupFrom};
 ghost use Rattle.counters.specs.Building.{Readable, Ready, child_holds, children_of, NodeBuilt, LevelBuilt};
 
-use super::shape::{CHILDREN, Level, NODE_COUNTERS, above, height_of, node_ones, ones_held};
-use words::block_ones;
+use super::shape::{CHILDREN, Level, NODE_COUNTERS, Tree, above, height_of, node_ones};
+use words::{block_at, block_ones};
 
+// Kept: words, counters, t and below apart: `build_level` writes counters between two of these reads, so a struct would be made anew for each node.
 // The ones of child m of level t + 1, where `below` is level t: of block m, or of node m by its last summary and its last key; 0 for a child that is not there.
 fn child_ones(words: &[u64], counters: &[u32], t: usize, below: Level, m: usize) -> u32
     requires { Readable words.now counters.now t below }
@@ -17,9 +18,7 @@ fn child_ones(words: &[u64], counters: &[u32], t: usize, below: Level, m: usize)
         return 0;
     }
     if t == 0 {
-        let a = 8 * m;
-        let e = a + 8;
-        return block_ones(&words[a..e]) as u32;
+        return block_ones(block_at(words, m)) as u32;
     }
     (node_ones(counters, below.start + NODE_COUNTERS * m) % 4294967296) as u32
 }
@@ -49,10 +48,9 @@ fn fill_group(keys: &mut [u32], children: &[u32]) -> u32
     ensures { GroupFrom children.now keys.new result }
 {
     let mut sum: u32 = 0;
-    for i in 0..8 {
-        let key = std::num::wrapping_add_u32(sum, children[i]);
-        keys[i] = key;
-        sum = key;
+    for (i, &ones) in children.iter().enumerate() {
+        sum = sum.wrapping_add(ones);
+        keys[i] = sum;
     }
     sum
 }
@@ -69,7 +67,7 @@ pub fn fill_node(node: &mut [u32], children: [u32; CHILDREN])
         let a = c + 8;
         let e = a + 8;
         let group = fill_group(&mut node[a..e], &children[c..a]);
-        sum = std::num::wrapping_add_u32(sum, group);
+        sum = sum.wrapping_add(group);
     }
 }
 
@@ -110,5 +108,10 @@ pub fn build_counters(words: &[u64], counters: &mut [u32], blocks: usize) -> usi
         level = above(below);
         build_level(words, counters, t, below, level);
     }
-    ones_held(counters, blocks)
+    Tree {
+        blocks,
+        words,
+        counters,
+    }
+    .ones_held()
 }

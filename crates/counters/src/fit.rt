@@ -1,25 +1,16 @@
 // Checking all counters against the words: each word is read once, each counter compared once, and two of each node read for the level above.
 ghost use Rattle.std.specs.Prelude.{◌≡◌, ℕ, ◌+◌, ◌*◌, ◌<◌, ◌≤◌, length, slice_index};
+ghost use Rattle.std.proofs.Math.Option.{none};
 ghost use Rattle.words.specs.Bits.{bit_at};
+ghost use Rattle.words.specs.Refusals.{judge};
+ghost use Rattle.counters.specs.Calls.{checks, fitting};
 ghost use Rattle.counters.specs.Record.{AllFit};
-ghost use Rattle.counters.specs.Working.{TreeOver, Decides};
+ghost use Rattle.counters.specs.Working.{Decides};
 ghost use Rattle.counters.specs.Building.{Ready, child_holds, NodeAt, LevelFrom};
 
 use super::build::{children_ones, fill_node};
-use super::shape::{CHILDREN, Level, NODE_COUNTERS, above, height_of};
-
-// Whether two lists of 72 counters are the same.
-fn same(a: &[u32], b: &[u32]) -> bool
-    requires { (length a.now ≡ 72) × (length b.now ≡ 72) }
-    ensures { Decides result ((i : ℕ) → i < 72 → slice_index a.now i ≡ slice_index b.now i) }
-{
-    for i in 0..NODE_COUNTERS {
-        if a[i] != b[i] {
-            return false;
-        }
-    }
-    true
-}
+use super::shape::{CHILDREN, Level, NODE_COUNTERS, Tree, above, height_of};
+use words::{BLOCK_BITS, Handle, first_from};
 
 // Whether node j of the level that starts at `at` is as laid for children that hold these numbers.
 fn node_fits(counters: &[u32], at: usize, j: usize, children: [u32; CHILDREN]) -> bool
@@ -30,7 +21,7 @@ fn node_fits(counters: &[u32], at: usize, j: usize, children: [u32; CHILDREN]) -
     fill_node(&mut expected[..], children);
     let a = at + NODE_COUNTERS * j;
     let e = a + NODE_COUNTERS;
-    same(&counters[a..e], &expected[..])
+    counters[a..e] == expected[..]
 }
 
 // Whether level t + 1, which is `level`, is as laid over level t, which is `below`.
@@ -49,22 +40,45 @@ fn level_fits(words: &[u64], counters: &[u32], t: usize, below: Level, level: Le
     true
 }
 
-// Whether every counter is as defined for the words.
-pub fn counters_fit(words: &[u64], counters: &[u32], blocks: usize) -> bool
-    requires { (length words.now ≡ 8 * blocks) × TreeOver blocks counters.now }
-    ensures { Decides result (AllFit (bit_at words.now) blocks counters.now) }
-{
-    let levels = height_of(blocks);
-    let mut level = Level {
-        count: blocks,
-        start: counters.len(),
-    };
-    for t in 0..levels {
-        let below = level;
-        level = above(below);
-        if !level_fits(words, counters, t, below, level) {
-            return false;
+impl<'a> Tree<'a> {
+    // Whether every counter is as defined for the words.
+    fn fits(self) -> bool
+        ensures { Decides result (AllFit (bit_at self.entry.words.now) self.entry.blocks self.entry.counters.now) }
+    {
+        let words = self.words;
+        let counters = self.counters;
+        let levels = height_of(self.blocks);
+        let mut level = Level {
+            count: self.blocks,
+            start: counters.len(),
+        };
+        for t in 0..levels {
+            let below = level;
+            level = above(below);
+            if !level_fits(words, counters, t, below, level) {
+                return false;
+            }
         }
+        true
     }
-    true
+}
+
+// Whether a record that passes the checks fits: no bit stands past the length, every counter is as defined, and the total is the ones held.
+pub fn record_fits(h: Handle, words: &[u64], counters: &[u32]) -> bool
+    requires { judge (checks h (length words.now) (length counters.now)) ≡ none }
+    ensures { result ≡ fitting h words.now counters.now }
+{
+    let blocks = h.capacity / BLOCK_BITS;
+    if first_from(words, h.capacity, true, h.length).is_some() {
+        return false;
+    }
+    let tree = Tree {
+        blocks,
+        words,
+        counters,
+    };
+    if !tree.fits() {
+        return false;
+    }
+    tree.ones_held() == h.total
 }

@@ -14,10 +14,10 @@ mod read;
 mod shape;
 
 // Open to users: no `requires`, and a promise for every input.
-pub use answer::{Changed, Created};
+pub use answer::{Change, Laid};
 pub use change::{create, fill, flip, push, truncate};
 pub use query::counters_needed;
-pub use read::{rank, select, verify};
+pub use read::Record;
 
 // For the layers above.
 pub use check::check_record;

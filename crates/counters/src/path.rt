@@ -11,8 +11,8 @@ fn add_each(lanes: &mut [u32], steps: &[u32])
     requires { (length lanes.old ≡ 8) × (length steps.now ≡ 8) }
     ensures { (i : ℕ) → i < 8 → slice_index lanes.new i ≡ (slice_index lanes.old i + slice_index steps.now i) % 2 ^ 32 }
 {
-    for i in 0..8 {
-        lanes[i] = std::num::wrapping_add_u32(lanes[i], steps[i]);
+    for (i, &step) in steps.iter().enumerate() {
+        lanes[i] = lanes[i].wrapping_add(step);
     }
 }
 
@@ -37,6 +37,7 @@ fn move_node(node: &mut [u32], steps: &[u32], c: usize) -> usize
 }
 
 // Adds d to the counters that count stroke p, level by level from the lowest, and answers their number. One node at a time is lent on.
+// Kept: counters and blocks apart, since a `Tree` lends its counters to be read alone; one that lends them to be written would serve this one call.
 pub fn move_path(counters: &mut [u32], blocks: usize, p: usize, d: u32) -> usize
     requires { TreeOver blocks counters.old × (p < 512 * blocks) }
     ensures { (result ≡ change_count blocks p) × PathMovedBy blocks p d counters.old counters.new }
@@ -46,10 +47,11 @@ pub fn move_path(counters: &mut [u32], blocks: usize, p: usize, d: u32) -> usize
     let mut number: usize = 0;
     let steps = [0u32, 0, 0, 0, 0, 0, 0, 0, d, d, d, d, d, d, d, d];
     for t in 0..levels {
-        climb = up(climb);
-        let a = climb.at;
+        let rise = up(climb);
+        climb = rise.climb;
+        let a = rise.at;
         let e = a + NODE_COUNTERS;
-        number += move_node(&mut counters[a..e], &steps, climb.slot);
+        number += move_node(&mut counters[a..e], &steps, rise.slot);
     }
     number
 }

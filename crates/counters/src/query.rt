@@ -4,14 +4,14 @@ ghost use Rattle.words.specs.Refusals.{told_of};
 ghost use Rattle.counters.specs.Calls.{counters_told};
 
 use super::shape::counter_count;
-use words::{Answer, Refusal, allowed};
+use words::{Refusal, allowed};
 
 // How many counters a capacity needs.
-pub fn counters_needed(capacity: usize) -> Answer
+pub fn counters_needed(capacity: usize) -> Result<u64, Refusal>
     ensures { told_of result ≡ counters_told capacity }
 {
     if !allowed(capacity) {
-        return Answer::Refused(Refusal::BadHandle);
+        return Err(Refusal::BadHandle);
     }
-    Answer::Value(counter_count(capacity) as u64)
+    Ok(counter_count(capacity) as u64)
 }

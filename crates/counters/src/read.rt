@@ -1,71 +1,80 @@
-// The calls that read a record: count, find and check. They write nothing.
+// A record that is read, and the calls that read it: count, find and check. They write nothing.
 ghost use Rattle.std.specs.Prelude.{◌≡◌};
 ghost use Rattle.words.specs.Refusals.{told_of};
 ghost use Rattle.counters.specs.Calls.{Ranked, Selected, verify_told};
 
-use super::ascent::ones_before;
 use super::check::{check_rank, check_record, check_select};
-use super::descent::select_position;
-use super::fit::counters_fit;
-use super::shape::ones_held;
-use words::{Answer, BLOCK_BITS, Handle, Refusal, Verdict, first_from, of_value};
+use super::fit::record_fits;
+use super::shape::Tree;
+use words::{BLOCK_BITS, Handle, Refusal, Strip, of_value};
 
-// count(v, i): how many of the first i bits equal v.
-pub fn rank(h: Handle, words: &[u64], counters: &[u32], v: u64, i: usize) -> Answer
-    ensures { Ranked h v i words.now counters.now (told_of result) }
-{
-    match check_rank(h, words.len(), counters.len(), v, i) {
-        Verdict::Refuse(r) => Answer::Refused(r),
-        Verdict::Pass => {
-            let capacity = h.capacity;
-            let ones = ones_before(words, counters, capacity / BLOCK_BITS, i);
-            if i < ones {
-                return Answer::Refused(Refusal::Unfit);
-            }
-            Answer::Value(of_value(v, i, ones) as u64)
-        }
-    }
+// A record: a strip, and the counters over it.
+#[derive(Clone, Copy)]
+pub struct Record<'a> {
+    pub strip: Strip<'a>,
+    pub counters: &'a [u32],
 }
 
-// find(v, k): the position that holds v and has k of v before it.
-pub fn select(h: Handle, words: &[u64], counters: &[u32], v: u64, k: usize) -> Answer
-    ensures { Selected h v k words.now counters.now (told_of result) }
-{
-    match check_select(h, words.len(), counters.len(), v, k) {
-        Verdict::Refuse(r) => Answer::Refused(r),
-        Verdict::Pass => {
-            let capacity = h.capacity;
-            let n = h.length;
-            let p = select_position(words, counters, capacity / BLOCK_BITS, v, k);
-            if p < n {
-                Answer::Value(p as u64)
-            } else {
-                Answer::Refused(Refusal::Unfit)
-            }
+impl<'a> Record<'a> {
+    pub fn new(handle: Handle, words: &'a [u64], counters: &'a [u32]) -> Record<'a>
+        ensures { (result.strip.handle ≡ handle) × (result.strip.words ≡ words.entry) × (result.counters ≡ counters.entry) }
+    {
+        Record {
+            strip: Strip::new(handle, words),
+            counters,
         }
     }
-}
 
-// check: the ones held, or 9 where the record does not fit.
-pub fn verify(h: Handle, words: &[u64], counters: &[u32]) -> Answer
-    ensures { told_of result ≡ verify_told h words.now counters.now }
-{
-    match check_record(h, words.len(), counters.len()) {
-        Verdict::Refuse(r) => Answer::Refused(r),
-        Verdict::Pass => {
-            let capacity = h.capacity;
-            let blocks = capacity / BLOCK_BITS;
-            if first_from(words, capacity, 1, h.length) < capacity {
-                return Answer::Refused(Refusal::Unfit);
-            }
-            if !counters_fit(words, counters, blocks) {
-                return Answer::Refused(Refusal::Unfit);
-            }
-            let ones = ones_held(counters, blocks);
-            if ones != h.total {
-                return Answer::Refused(Refusal::Unfit);
-            }
-            Answer::Value(ones as u64)
+    // count(v, i): how many of the first i bits equal v.
+    pub fn rank(self, v: u64, i: usize) -> Result<u64, Refusal>
+        ensures { Ranked self.entry.strip.handle v i self.entry.strip.words.now self.entry.counters.now (told_of result) }
+    {
+        let h = self.strip.handle;
+        let words = self.strip.words;
+        let counters = self.counters;
+        check_rank(h, words.len(), counters.len(), v, i)?;
+        let tree = Tree {
+            blocks: h.capacity / BLOCK_BITS,
+            words,
+            counters,
+        };
+        let ones = tree.ones_before(i);
+        if i < ones {
+            return Err(Refusal::Unfit);
         }
+        Ok(of_value(v, i, ones) as u64)
+    }
+
+    // find(v, k): the position that holds v and has k of v before it.
+    pub fn select(self, v: u64, k: usize) -> Result<u64, Refusal>
+        ensures { Selected self.entry.strip.handle v k self.entry.strip.words.now self.entry.counters.now (told_of result) }
+    {
+        let h = self.strip.handle;
+        let words = self.strip.words;
+        let counters = self.counters;
+        check_select(h, words.len(), counters.len(), v, k)?;
+        let tree = Tree {
+            blocks: h.capacity / BLOCK_BITS,
+            words,
+            counters,
+        };
+        match tree.select_position(v == 1, k) {
+            Some(p) if p < h.length => Ok(p as u64),
+            _ => Err(Refusal::Unfit),
+        }
+    }
+
+    // check: the ones held, or 9 where the record does not fit.
+    pub fn verify(self) -> Result<u64, Refusal>
+        ensures { told_of result ≡ verify_told self.entry.strip.handle self.entry.strip.words.now self.entry.counters.now }
+    {
+        let h = self.strip.handle;
+        let words = self.strip.words;
+        let counters = self.counters;
+        check_record(h, words.len(), counters.len())?;
+        if !record_fits(h, words, counters) {
+            return Err(Refusal::Unfit);
+        }
+        Ok(h.total as u64)
     }
 }

@@ -1,5 +1,5 @@
 // The tree's shape, by the number of blocks, and the ones that its root tells.
-ghost use Rattle.std.specs.Prelude.{◌≡◌, ◌+◌, ◌^◌, ◌<◌, ◌≤◌, length};
+ghost use Rattle.std.specs.Prelude.{◌≡◌, ◌+◌, ◌*◌, ◌^◌, ◌<◌, ◌≤◌, length};
 ghost use Rattle.counters.specs.Tree.{blocks_of, height, counter_count};
 ghost use Rattle.counters.specs.Working.{TreeOver, nodes_over, most_pair, ones_from, RoomAbove, Above, Up, OnesHeld};
 
@@ -36,7 +36,7 @@ pub fn parents(count: usize) -> usize
 }
 
 // A level: the number of its nodes, and where its counters start. The blocks are level 0, which starts where the counters end.
-#[derive(Clone, Copy)]
+#[derive(Clone, Copy, Debug, PartialEq, Eq, Hash)]
 pub struct Level {
     pub count: usize,
     pub start: usize,
@@ -49,17 +49,22 @@ pub fn above(level: Level) -> Level
 {
     let count = parents(level.count);
     Level {
-        count: count,
+        count,
         start: level.start - NODE_COUNTERS * count,
     }
 }
 
-// Where a climb from a block to the root stands: a level, the node on the way, where its counters start, and the slot of the child that it came from. At a
-// block the last two mean nothing.
-#[derive(Clone, Copy)]
+// Where a climb from a block to the root stands: a level, and the node on the way; at level 0 the block.
+#[derive(Clone, Copy, Debug, PartialEq, Eq, Hash)]
 pub struct Climb {
     pub level: Level,
     pub node: usize,
+}
+
+// One level of a climb: where it then stands, where the counters of that node start, and the slot of the child that it came from.
+#[derive(Clone, Copy, Debug, PartialEq, Eq, Hash)]
+pub struct Rise {
+    pub climb: Climb,
     pub at: usize,
     pub slot: usize,
 }
@@ -74,21 +79,18 @@ pub fn from_block(blocks: usize, end: usize, block: usize) -> Climb
             start: end,
         },
         node: block,
-        at: end,
-        slot: 0,
     }
 }
 
 // One level up.
-pub fn up(climb: Climb) -> Climb
+pub fn up(climb: Climb) -> Rise
     requires { RoomAbove climb.level × (climb.node < climb.level.count) }
     ensures { Up climb result }
 {
     let level = above(climb.level);
     let node = climb.node / CHILDREN;
-    Climb {
-        level: level,
-        node: node,
+    Rise {
+        climb: Climb { level, node },
         at: level.start + NODE_COUNTERS * node,
         slot: climb.node % CHILDREN,
     }
@@ -124,10 +126,21 @@ pub fn node_ones(counters: &[u32], at: usize) -> usize
     wide(counters[at + LAST_SUMMARY]) + wide(counters[at + LAST_KEY])
 }
 
-// The ones that a record holds, by its root.
-pub fn ones_held(counters: &[u32], blocks: usize) -> usize
-    requires { TreeOver blocks counters.now }
-    ensures { (result ≤ most_pair) × OnesHeld blocks counters.now result }
-{
-    node_ones(counters, 0)
+// So many blocks of words, and the counters over them.
+#[derive(Clone, Copy)]
+pub struct Tree<'a> {
+    pub blocks: usize,
+    pub words: &'a [u64],
+    pub counters: &'a [u32],
+    ghost covered: { length words.now ≡ 8 * blocks },
+    ghost whole: { TreeOver blocks counters.now },
+}
+
+impl<'a> Tree<'a> {
+    // The ones that a record holds, by its root.
+    pub fn ones_held(self) -> usize
+        ensures { (result ≤ most_pair) × OnesHeld self.entry.blocks self.entry.counters.now result }
+    {
+        node_ones(self.counters, 0)
+    }
 }

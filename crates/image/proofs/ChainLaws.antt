@@ -3,16 +3,15 @@ use mathlib.Core.Path.{◌≡◌, refl, sym, ap, subst, ◌∙◌}
 use mathlib.Core.Bool.{Bool, true, false, cond, not, ◌&&◌, ◌||◌, true≢false, false≢true}
 use mathlib.Core.List.{List, [], ◌∷◌, ◌++◌}
 use mathlib.Core.Option.{Option, some, none}
-use Prim.Native.Nat.{ℕ, zero, suc, ◌+◌, ◌-◌, ◌*◌, ◌%◌, ◌<◌, ◌≤◌}
+use Prim.Native.Nat.{ℕ, zero, suc, ◌+◌, ◌*◌, ◌%◌, ◌<◌, ◌≤◌}
 use native.Mathlib.Omega.{arith}
-use lib.ListN.{length, get_or, take, drop}
+use lib.ListN.{length, get_or}
 use lib.Dec.{leb, eqb}
 use borrow.Author.Tests.{le-leb, eq-eqb, ne_eqb, leb-true, eqb-true, eqb-false}
 use Rattle.words.specs.Strip.{or_else}
 use Rattle.words.specs.Words.{place_in}
 use Rattle.words.specs.declared.refusal.Refusal.{Refusal}
-use Rattle.words.specs.declared.refusal.Answer.{Answer}
-use Rattle.words.specs.declared.refusal.Answer.TheVariants.{Value, Refused}
+use Rattle.std.specs.Prelude.{Result, Ok, Err}
 use Rattle.words.specs.Refusals.{number_of, judge, unless, value, refused, told_of}
 use Rattle.words.proofs.BoolLaws.{and_first, and_second, not_not, or_none}
 use Rattle.words.proofs.CheckLaws.{passes}
@@ -20,8 +19,7 @@ use Rattle.image.specs.Bytes.{num}
 use Rattle.image.specs.Kinds.{Kind, kinds, is_kind}
 use Rattle.image.specs.Layout.{unit_bytes, head_bytes, most_bytes, most_label, most_row}
 use Rattle.image.specs.Chain.{kind_of, next_at, label_at, length_at, end_at, good_label, good_fields, good_size, sound_header, sound_record, among, in_front, chain_from, chain_of, place_of, chain_end, link_of}
-use Rattle.image.specs.Rows.{part_at}
-use Rattle.image.specs.Calls.{is_some, records_in, records_of, record_with, row_place, row_part, open_table, open_told, open_part}
+use Rattle.image.specs.Calls.{is_some, records_in, records_of, record_with, row_place, open_table, open_told}
 use Rattle.image.proofs.KindLaws.{KindFits, size_units, image_fits}
 
 -- ---- the header and a record
@@ -472,24 +470,6 @@ end_last K s (b ∷ []) a = refl
 end_last K s (b ∷ c ∷ cs) a = end_last K s (c ∷ cs) a
 
 -- ---- opening a row
--- 10 the chain is not sound
-pub open_unsound : (s : List ℕ) (label : ℕ) → chain_of s ≡ none → refused 10 ≡ open_told s label
-open_unsound s label e = simp e
-
--- 11 the label is not 1 to 64
-pub open_label : (s : List ℕ) (label : ℕ) (rs : List ℕ) → chain_of s ≡ some rs → good_label label ≡ false → refused 11 ≡ open_told s label
-open_label s label rs e g = simp (e, g)
-
--- 14 the label is absent
-pub open_absent : (s : List ℕ) (label : ℕ) (rs : List ℕ) → chain_of s ≡ some rs → good_label label ≡ true → place_of s label rs ≡ none
-    → refused 14 ≡ open_told s label
-open_absent s label rs e g p = simp (e, g, p)
-
--- else the record's start
-pub open_value : (s : List ℕ) (label : ℕ) (rs : List ℕ) (a : ℕ) → chain_of s ≡ some rs → good_label label ≡ true → place_of s label rs ≡ some a
-    → value a ≡ open_told s label
-open_value s label rs a e g p = simp (e, g, p)
-
 -- what an opened row is known for
 pub record Opened (s : List ℕ) (label : ℕ) : Type 0 where
   pub chain : chain_of s ≡ some (records_of s)
@@ -541,26 +521,11 @@ refused_told none n y e = no_confusion cc
 refused_told (some m) n y e = cc
 
 -- an opening that answers a value is not refused, and the value is the row's place
-pub opened_value : (s : List ℕ) (label : ℕ) (o : Answer) (at : ℕ) → told_of o ≡ open_told s label → o ≡ Value at
+pub opened_value : (s : List ℕ) (label : ℕ) (o : Result ℕ Refusal) (at : ℕ) → told_of o ≡ open_told s label → o ≡ Ok at
     → (judge (open_table s label) ≡ none) × (at ≡ row_place s label)
 opened_value s label o at e d = value_told (judge (open_table s label)) at (row_place s label) (sym (ap told_of d) ∙ e)
 
 -- an opening that answers a refusal
-pub opened_refused : (s : List ℕ) (label : ℕ) (o : Answer) (r : Refusal) → told_of o ≡ open_told s label → o ≡ Refused r
+pub opened_refused : (s : List ℕ) (label : ℕ) (o : Result ℕ Refusal) (r : Refusal) → told_of o ≡ open_told s label → o ≡ Err r
     → judge (open_table s label) ≡ some (number_of r)
 opened_refused s label o r e d = refused_told (judge (open_table s label)) (number_of r) (row_place s label) (sym (ap told_of d) ∙ e)
-
--- the part of a refused opening
-pub part_refused : (s : List ℕ) (label : ℕ) (o : Answer) (r : Refusal) → told_of o ≡ open_told s label → o ≡ Refused r → [] ≡ open_part s label
-part_refused s label o r e d =
-    ap (λ (v : Option ℕ). unless v (λ n. []) (row_part s label)) (sym (opened_refused s label o r e d))
-
--- the part of an opened row
-pub part_opened : (s : List ℕ) (label : ℕ) (o : Answer) (at : ℕ) → told_of o ≡ open_told s label → o ≡ Value at → part_at (kind_of s) s at ≡ open_part s label
-part_opened s label o at e d =
-    let k = opened_value s label o at e d in
-    ap (part_at (kind_of s) s) k.1 ∙ ap (λ (v : Option ℕ). unless v (λ n. []) (row_part s label)) (sym k.0)
-
--- a part from a to its end
-pub part_taken : (s : List ℕ) (a end m : ℕ) → end ≡ a + m → take (end - a) (drop a s) ≡ take m (drop a s)
-part_taken s a end m e = let z : end - a ≡ m = omega arith in simp z

@@ -43,7 +43,3 @@ counting_more K g c sum j next x h is =
       count = is;
       ends = stored_more (λ i. ones g (block_bits * (i + 1))) c j next (omega (arith, x.long)) x.ends is;
     }
-
--- all are counted
-pub counting_done : (K : Kind) (g : ℕ → ℕ) (c : List ℕ) (sum j : ℕ) → Counting K g c sum j → superblock_blocks K ≤ j → BlockCounts K g c
-counting_done K g c sum j x h = record { long = x.long; ends = λ i l. x.ends i (omega arith) }

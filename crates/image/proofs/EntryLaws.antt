@@ -157,10 +157,6 @@ word low high l = go (low / 2 ^ 44) high (shr_lt 20 44 l)
     go : (a b : ℕ) → a < 2 ^ 20 → (a * 2 ^ 12) % 2 ^ 64 + (b * 2 ^ 32) % 2 ^ 64 ≡ ((a + 2 ^ 20 * b) * 2 ^ 12) % 2 ^ 64
     go a b q = omega arith
 
--- it does not overflow
-pub word_lt : (low high : ℕ) → low < 2 ^ 64 → (low / 2 ^ 44 * 2 ^ 12) % 2 ^ 64 + (high * 2 ^ 32) % 2 ^ 64 < 2 ^ 64
-word_lt low high l = subst (λ (x : ℕ). x < 2 ^ 64) (sym (word low high l)) (mod-lt ((low / 2 ^ 44 + 2 ^ 20 * high) * 2 ^ 12) (pow_pos 64))
-
 -- blocks 0 to 4 lie in it
 pub field_low : (low high j : ℕ) → low < 2 ^ 64 → j < 5
     → ((low / 2 ^ 44 * 2 ^ 12) % 2 ^ 64 + (high * 2 ^ 32) % 2 ^ 64) / 2 ^ (12 * j) % 2 ^ 12 ≡ block_field (low + 2 ^ 64 * high) j

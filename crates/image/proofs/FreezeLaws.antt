@@ -1,23 +1,21 @@
 -- The laws of freezing: where the record goes, and the refusals. Assumes nothing.
-use mathlib.Core.Path.{◌≡◌, refl, sym, ap, ap₂, ◌∙◌}
+use mathlib.Core.Path.{◌≡◌, refl, sym, ap, ◌∙◌}
 use mathlib.Core.Bool.{Bool, true, false, true≢false}
 use mathlib.Core.List.{List}
 use mathlib.Core.Option.{Option, some, none}
-use Prim.Native.Nat.{ℕ, ◌+◌, ◌/◌, ◌≤◌, ◌<◌}
+use Prim.Native.Nat.{ℕ, ◌+◌, ◌/◌, ◌≤◌}
 use lib.ListN.{length}
 use lib.Seq.{sets}
-use borrow.Author.Tests.{lt-ltb, le-ltb, ltb-false}
+use borrow.Author.Tests.{ltb-false}
 use Rattle.words.specs.declared.handle.Handle.{Handle}
 use Rattle.words.specs.declared.refusal.Refusal.{Refusal}
-use Rattle.words.specs.declared.refusal.Verdict.{Verdict}
-use Rattle.words.specs.declared.refusal.Verdict.TheVariants.{Pass, Refuse}
+use Rattle.std.specs.Prelude.{Result, Ok, Err, IsErrAnd}
 use Rattle.words.specs.Strip.{strip_of}
-use Rattle.words.specs.Refusals.{number_of, judge, verdict_of, unless, value, refused}
+use Rattle.words.specs.Refusals.{number_of, judge, verdict_of, told_of, unless, value, refused}
 use Rattle.words.specs.Handles.{untaken, strip_lines}
 use Rattle.words.proofs.BoolLaws.{not_not}
-use Rattle.words.proofs.CheckLaws.{Checked, checked, passes, passed_both, passed_first, refused_first}
+use Rattle.words.proofs.CheckLaws.{Checked, checked, passes, passed_both, passed_first, raised}
 use Rattle.image.specs.declared.freezing.Place.{Place}
-use Rattle.image.specs.declared.freezing.Place.TheVariants as place
 use Rattle.image.specs.Bytes.{le}
 use Rattle.image.specs.Layout.{unit_bytes, most_label, size_of, record_of}
 use Rattle.image.specs.Chain.{kind_of, good_label, chain_of, chain_end, link_of}
@@ -26,41 +24,8 @@ use Rattle.image.specs.Writing.{at, nowhere, place_told, new_place, freeze_place
 use Rattle.image.proofs.ChainLaws.{no_confusion, label_facts, ChainFacts, chain_facts, some_in}
 
 -- ---- the place of a new record
--- 10 the chain is not sound
-pub place_unsound : (s : List ℕ) (label size : ℕ) → chain_of s ≡ none → nowhere 10 ≡ new_place s label size
-place_unsound s label size e = simp e
-
--- 11 the label is not 1 to 64
-pub place_label : (s : List ℕ) (label size : ℕ) → chain_of s ≡ some (records_of s) → good_label label ≡ false → nowhere 11 ≡ new_place s label size
-place_label s label size e g = sym (simp (ap is_some e, g))
-
--- 12 the label is present
-pub place_present : (s : List ℕ) (label size a : ℕ) → chain_of s ≡ some (records_of s) → good_label label ≡ true → record_with s label ≡ some a
-    → nowhere 12 ≡ new_place s label size
-place_present s label size a e g p = sym (simp (ap is_some e, g, ap is_some p))
-
--- 13 it does not end inside the image
-pub place_full : (s : List ℕ) (label size : ℕ) → chain_of s ≡ some (records_of s) → good_label label ≡ true → record_with s label ≡ none
-    → length s < chain_end (kind_of s) s (records_of s) + size → nowhere 13 ≡ new_place s label size
-place_full s label size e g p h = sym (simp (ap is_some e, g, ap is_some p, lt-ltb _ _ h))
-
--- else after the last record
-pub place_new : (s : List ℕ) (label size link start : ℕ) → chain_of s ≡ some (records_of s) → good_label label ≡ true → record_with s label ≡ none
-    → chain_end (kind_of s) s (records_of s) + size ≤ length s → link ≡ link_of (records_of s) → start ≡ chain_end (kind_of s) s (records_of s)
-    → at link start ≡ new_place s label size
-place_new s label size link start e g p h l z =
-    ap₂ at l z ∙ sym (simp (ap is_some e, g, ap is_some p, le-ltb _ _ h))
-
--- refused by the checks of all strip calls
-pub freeze_early : (h : Handle) (words : ℕ) (s : List ℕ) (label : ℕ) (v : Verdict) (r : Refusal) → verdict_of v ≡ judge (strip_lines h words untaken)
-    → v ≡ Refuse r → nowhere (number_of r) ≡ freeze_place h words s label
-freeze_early h words s label v r e d =
-    let t = record_lines s label (size_of (kind_of s) h.length) in
-    ap (λ (o : Option ℕ). unless o nowhere (at (link_of (records_of s)) (chain_end (kind_of s) s (records_of s))))
-    (sym (ap verdict_of d) ∙ refused_first (strip_lines h words untaken) t v r e d)
-
--- passed by them
-pub freeze_late : (h : Handle) (words : ℕ) (s : List ℕ) (label : ℕ) (v : Verdict) → verdict_of v ≡ judge (strip_lines h words untaken) → v ≡ Pass
+-- where the checks of all strip calls pass, the place of a new record is left to find
+pub freeze_late : (h : Handle) (words : ℕ) (s : List ℕ) (label : ℕ) (v : Result Unit Refusal) → verdict_of v ≡ judge (strip_lines h words untaken) → v ≡ Ok tt
     → new_place s label (size_of (kind_of s) h.length) ≡ freeze_place h words s label
 freeze_late h words s label v e d =
     let t = record_lines s label (size_of (kind_of s) h.length) in
@@ -109,17 +74,18 @@ nowhere_told none n m b e = no_confusion cc
 nowhere_told (some k) n m b e = cc
 
 -- what a place that is given says
-pub placed_at : (h : Handle) (words : ℕ) (s : List ℕ) (label : ℕ) (r : Place) (link start : ℕ) → place_told r ≡ freeze_place h words s label
-    → r ≡ place.At link start
-    → (judge (freeze_table h words s label) ≡ none) × (link ≡ link_of (records_of s)) × (start ≡ chain_end (kind_of s) s (records_of s))
-placed_at h words s label r link start e d =
-    at_told (judge (freeze_table h words s label)) link start (link_of (records_of s)) (chain_end (kind_of s) s (records_of s)) (sym (ap place_told d) ∙ e)
+pub placed_at : (h : Handle) (words : ℕ) (s : List ℕ) (label : ℕ) (r : Result Place Refusal) (p : Place) → place_told r ≡ freeze_place h words s label
+    → r ≡ Ok p
+    → (judge (freeze_table h words s label) ≡ none) × (p.link ≡ link_of (records_of s)) × (p.start ≡ chain_end (kind_of s) s (records_of s))
+placed_at h words s label r p e d =
+    at_told (judge (freeze_table h words s label)) p.link p.start (link_of (records_of s)) (chain_end (kind_of s) s (records_of s)) (sym (ap place_told d) ∙ e)
 
 -- a freeze that is refused
-pub freeze_refused : (h : Handle) (ws s : List ℕ) (label : ℕ) (r : Place) (x : Refusal) → place_told r ≡ freeze_place h (length ws) s label
-    → r ≡ place.Refused x → image_outcome (refused (number_of x)) s ≡ freeze_outcome h ws s label
-freeze_refused h ws s label r x e d =
-    ap (λ (o : Option ℕ). unless o (λ n. image_outcome (refused n) s)
+pub freeze_refused : (h : Handle) (ws s : List ℕ) (label : ℕ) (r : Result Place Refusal) (q : Result ℕ Refusal) (x : Refusal)
+    → place_told r ≡ freeze_place h (length ws) s label → r ≡ Err x → IsErrAnd q (λ e. e ≡ x) → image_outcome (told_of q) s ≡ freeze_outcome h ws s label
+freeze_refused h ws s label r q x e d i =
+    ap (λ (o : Result ℕ Refusal). image_outcome (told_of o) s) (raised q x i)
+    ∙ ap (λ (o : Option ℕ). unless o (λ n. image_outcome (refused n) s)
     (image_outcome (value (chain_end (kind_of s) s (records_of s) / unit_bytes)) (frozen s label (strip_of ws h.length))))
     (sym (nowhere_told (judge (freeze_table h (length ws) s label)) (number_of x) (link_of (records_of s)) (chain_end (kind_of s) s (records_of s)) (sym (ap place_told d) ∙ e)))
 

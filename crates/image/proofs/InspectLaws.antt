@@ -7,8 +7,7 @@ use Prim.Native.Nat.{ℕ, zero, suc, ◌+◌, ◌*◌, ◌<◌, ◌≤◌}
 use native.Mathlib.Omega.{arith}
 use lib.ListN.{length, get_or, length-append}
 use Rattle.words.specs.declared.refusal.Refusal.{Refusal}
-use Rattle.words.specs.declared.refusal.Answer.{Answer}
-use Rattle.words.specs.declared.refusal.Answer.TheVariants.{Value, Refused}
+use Rattle.std.specs.Prelude.{Result, Ok, Err}
 use Rattle.words.specs.Refusals.{number_of, judge, unless, Told, value, refused, told_of}
 use Rattle.words.proofs.BoolLaws.{and_intro, and_first, and_second, true_false}
 use Rattle.image.specs.Bytes.{num}
@@ -171,10 +170,10 @@ pub inspect_passed : (s : List ℕ) → judge (inspect_table s) ≡ none → Obe
 inspect_passed s e = (inspect_obeys s (length (records_of s)) (ap (λ (o : Option ℕ). unless o refused (value (length (records_of s)))) e)).0
 
 -- an inspection that answers a value, or a refusal
-pub inspect_value : (s : List ℕ) (o : Answer) (n : ℕ) → told_of o ≡ inspect_told s → o ≡ Value n → Obeys s
+pub inspect_value : (s : List ℕ) (o : Result ℕ Refusal) (n : ℕ) → told_of o ≡ inspect_told s → o ≡ Ok n → Obeys s
 inspect_value s o n e d = (inspect_obeys s n (sym e ∙ ap told_of d)).0
 
-pub inspect_refused : (s : List ℕ) (o : Answer) (r : Refusal) → told_of o ≡ inspect_told s → o ≡ Refused r → judge (inspect_table s) ≡ some (number_of r)
+pub inspect_refused : (s : List ℕ) (o : Result ℕ Refusal) (r : Refusal) → told_of o ≡ inspect_told s → o ≡ Err r → judge (inspect_table s) ≡ some (number_of r)
 inspect_refused s o r e d = refused_told (judge (inspect_table s)) (number_of r) (length (records_of s)) (sym (ap told_of d) ∙ e)
 
 -- ---- rows written out

@@ -2,9 +2,10 @@
 use mathlib.Core.Path.{◌≡◌, sym, ap, ap₂, ◌∙◌}
 use mathlib.Core.List.{List}
 use Prim.Native.Nat.{ℕ, zero, suc, ◌+◌, ◌*◌, ◌/◌, ◌%◌, ◌^◌, ◌≤◌, ◌<◌}
-use native.Mathlib.Nat.{add_assoc, pow-zero, pow-succ', mul-add, mul_assoc, one-mul}
+use native.Mathlib.Nat.{add_assoc, add-zero, pow-zero, pow-succ', mul-add, mul_assoc, one-mul}
 use native.Mathlib.Omega.{arith}
 use lib.ListN.{get_or, take, drop}
+use Rattle.std.specs.Int.{w32, w64, from_le_bytes}
 use Rattle.words.specs.Bits.{bit, digits}
 use Rattle.words.proofs.Sums.{part_at_lem}
 use Rattle.words.proofs.BitLaws.{byte_bit}
@@ -55,3 +56,17 @@ pub num_taken : (s : List ℕ) (a m at n : ℕ) → at + n ≤ m → num (take m
 num_taken s a m at n h =
     digits_ext 256 (λ i. get_or (take m (drop a s)) (at + i) 0) (λ i. get_or s (a + at + i) 0) n (λ i l.
     part_at_lem s a m 0 (at + i) (omega arith) ∙ ap (λ (k : ℕ). get_or s k 0) (sym (add_assoc a at i)))
+
+-- ---- what `from_le_bytes` reads
+pub number_of_4 : (xs : List ℕ) → from_le_bytes w32 xs ≡ num xs 0 4
+unfolding digits
+number_of_4 xs = omega arith
+
+pub number_of_8 : (xs : List ℕ) → from_le_bytes w64 xs ≡ num xs 0 8
+unfolding digits
+number_of_8 xs = omega arith
+
+-- the number of n bytes from byte `at` on is that of the part that they are
+pub num_part : (s xs : List ℕ) (at n m : ℕ) → xs ≡ take m (drop at s) → m ≡ n → num xs 0 n ≡ num s at n
+num_part s xs at n m e k =
+    ap (λ (l : List ℕ). num l 0 n) e ∙ num_taken s at m 0 n (omega arith) ∙ ap (λ (j : ℕ). num s j n) (add-zero at)

@@ -1,23 +1,22 @@
 -- The part of a row: its bits, what a right row's part holds, its index, and what the reading calls give. Assumes nothing.
-use mathlib.Core.Path.{◌≡◌, refl, sym, ap, ap₂, ◌∙◌, subst}
-use mathlib.Core.Bool.{Bool, true, false}
+use mathlib.Core.Path.{◌≡◌, sym, ap, ap₂, ◌∙◌, subst}
+use mathlib.Core.Bool.{true}
 use mathlib.Core.Logic.{◌⊎◌, inl, inr}
 use mathlib.Core.List.{List}
-use mathlib.Core.Option.{none}
-use Prim.Native.Nat.{ℕ, suc, ◌+◌, ◌-◌, ◌*◌, ◌/◌, ◌%◌, ◌^◌, ◌≤◌, ◌<◌}
-use native.Mathlib.Nat.{two-pow-succ, min-eq_left, le_refl, mul-zero, mul-le-mul_left, mod-lt, div-add-mod, div-lt_iff_lt-mul, mul_comm}
+use mathlib.Core.Option.{some, none}
+use Prim.Native.Nat.{ℕ, ◌+◌, ◌-◌, ◌*◌, ◌/◌, ◌%◌, ◌≤◌, ◌<◌}
+use native.Mathlib.Nat.{min-eq_left, le_refl, mod-lt, div-add-mod, div-lt_iff_lt-mul, mul_comm}
 use native.Mathlib.Omega.{arith}
 use lib.Dec.{leb, eqb}
-use borrow.Author.Tests.{leb-true, leb-false, eqb-true}
+use borrow.Author.Tests.{leb-true, eqb-true}
 use lib.ListN.{length, get_or}
 use Rattle.words.specs.Bits.{bit, bit_at, ones}
 use Rattle.words.specs.Strip.{cell, holds, rank, rank_of, of_value, select, select_of}
-use Rattle.words.specs.Working.{at_most}
 use Rattle.words.specs.Words.{place_in}
 use Rattle.words.specs.Refusals.{Line, judge, Told, value, refused, found}
 use Rattle.words.proofs.BoolLaws.{and_first, and_second}
 use Rattle.words.proofs.Sums.{lt_or, sum_zero, sum_split, ones_le, sum_mono, part_ones, length_list_of, get_or_list_of}
-use Rattle.words.proofs.BitLaws.{bit_le, one_shl}
+use Rattle.words.proofs.BitLaws.{bit_le}
 use Rattle.words.proofs.SearchLaws.{select_exists, select_place, select_below, select_longer, rank_part, part_select, value_rank, value_found, value_absent, value_le}
 use Rattle.words.proofs.StripLaws.{total_ones}
 use Rattle.counters.specs.Promises.{Promise, AtMost, Below}
@@ -29,7 +28,7 @@ use Rattle.image.specs.Chain.{length_at, ones_at, good_fields}
 use Rattle.image.specs.Rows.{row_bits, Right}
 use Rattle.image.specs.Calls.{good_part}
 use Rattle.image.specs.Reading.{entry_number, ones_told, Halved, PadZero}
-use Rattle.image.proofs.KindLaws.{KindFits, EntryTells, times_more, blocks_all, superblocks_cover, superblock_begins}
+use Rattle.image.proofs.KindLaws.{KindFits, EntryTells, blocks_all, superblocks_cover, superblock_begins}
 use Rattle.image.proofs.ChainLaws.{fields_facts}
 use Rattle.image.proofs.WriteLaws.{list_of_past, list_of_all, record_total, record_pad, record_entry, record_bit}
 use Rattle.image.proofs.NumberLaws.{bytes_bit}
@@ -142,61 +141,6 @@ words_bit s block at b h p l =
     ∙ bytes_bit (λ k. get_or s (at + 8 * (p / 64) + k) 0) 8 (p % 64) (λ k q. b (at + 8 * (p / 64) + k)) (omega arith)
     ∙ ap₂ (λ (x y : ℕ). bit (get_or s x 0) y) i j
 
--- ---- the search, by steps of 2^(t - 1) for t from the highest to 1
-module _ (P : ℕ → ℕ) (end k : ℕ) where
-  -- all places
-  pub halved_all : (hi : ℕ) → end ≤ hi → Halved P end k 0 hi
-  halved_all hi l = record { low = inl refl; high = inl l }
-
-  module _ (lo t : ℕ) (more : 0 < t) (small : t ≤ 64) (h : Halved P end k lo (lo + 2 ^ t)) where
-    -- the step, as the code makes it
-    step : (1 * 2 ^ (t - 1)) % 2 ^ 64 ≡ 2 ^ (t - 1)
-    step = one_shl (t - 1) (omega arith)
-
-    -- the place is past the last
-    pub halved_short : end ≤ lo + (1 * 2 ^ (t - 1)) % 2 ^ 64 → Halved P end k lo (lo + 2 ^ (t - 1))
-    halved_short l = record { low = h.low; high = inl (omega (arith, step)) }
-
-    -- the step is taken where P is at most k at the place
-    pub halved_step : (f : ℕ) → lo + (1 * 2 ^ (t - 1)) % 2 ^ 64 < end → f ≡ at_most P k (lo + (1 * 2 ^ (t - 1)) % 2 ^ 64) → lo < end
-        → (lo + (f * 2 ^ (t - 1)) % 2 ^ 64 < end) × Halved P end k (lo + (f * 2 ^ (t - 1)) % 2 ^ 64) (lo + (f * 2 ^ (t - 1)) % 2 ^ 64 + 2 ^ (t - 1))
-    halved_step f l e first = go (leb (P mid) k) refl
-      where
-        mid : ℕ
-        mid = lo + (1 * 2 ^ (t - 1)) % 2 ^ 64
-
-        to : ℕ
-        to = lo + (f * 2 ^ (t - 1)) % 2 ^ 64
-
-        go : (b : Bool) → leb (P mid) k ≡ b → (to < end) × Halved P end k to (to + 2 ^ (t - 1))
-        go true q =
-            let one : f ≡ 1 = e ∙ simp q in
-            let m : to ≡ mid = ap (λ (x : ℕ). lo + (x * 2 ^ (t - 1)) % 2 ^ 64) one in
-            let s : suc (t - 1) ≡ t = omega arith in
-            let hi : lo + 2 ^ t ≡ mid + 2 ^ (t - 1) = omega (arith, step, two-pow-succ (t - 1), ap (λ (x : ℕ). 2 ^ x) s) in
-            subst (λ (x : ℕ). (x < end) × Halved P end k x (x + 2 ^ (t - 1))) (sym m)
-            (l, record { low = inr (leb-true (P mid) k q); high = subst (λ (x : ℕ). (end ≤ x) ⊎ (k < P x)) hi h.high })
-        go false q =
-            let none : f ≡ 0 = e ∙ simp q in
-            let m : to ≡ lo = ap (λ (x : ℕ). lo + (x * 2 ^ (t - 1)) % 2 ^ 64) none ∙ omega arith in
-            subst (λ (x : ℕ). (x < end) × Halved P end k x (x + 2 ^ (t - 1))) (sym m)
-            (first, record { low = h.low; high = inr (subst (λ (x : ℕ). k < P (lo + x)) step (leb-false (P mid) k q)) })
-
--- from superblocks to their blocks, w each
-pub halved_blocks : (P : ℕ → ℕ) (w count end k b : ℕ) → end ≤ w * count → Halved (λ i. P (w * i)) count k b (b + 1) → Halved P end k (w * b) (w * b + w)
-halved_blocks P w count end k b all h = record { low = go h.low; high = up h.high }
-  where
-    next : w * (b + 1) ≡ w * b + w
-    next = times_more w b
-
-    go : (b ≡ 0) ⊎ (P (w * b) ≤ k) → (w * b ≡ 0) ⊎ (P (w * b) ≤ k)
-    go (inl e) = inl (ap (λ (x : ℕ). w * x) e ∙ mul-zero w)
-    go (inr l) = inr l
-
-    up : (count ≤ b + 1) ⊎ (k < P (w * (b + 1))) → (end ≤ w * b + w) ⊎ (k < P (w * b + w))
-    up (inl l) = inl (omega (arith, mul-le-mul_left w l, next))
-    up (inr l) = inr (subst (λ (x : ℕ). k < P x) next l)
-
 -- the bits of a row, zero past its length
 abbrev pub bits_of : Kind → List ℕ → ℕ → ℕ → ℕ
 bits_of K part n = cell (row_bits K part n)
@@ -276,6 +220,16 @@ good_part_lem K part n h =
       omega (arith, (fields_facts part 0 (and_first (good_fields part 0) _ rest)).2),
     )
 
+-- what a part that passed its check is known for
+pub record PartGood (K : Kind) (part : List ℕ) (n : ℕ) : Type 0 where
+  pub good : good_part K part n ≡ true
+  pub room : head_bytes ≤ length part
+  pub size : length part ≡ size_of K n
+  pub short : n ≤ most_row
+
+pub part_is : (K : Kind) (part : List ℕ) (n : ℕ) → good_part K part n ≡ true → PartGood K part n
+part_is K part n g = let k = good_part_lem K part n g in record { good = g; room = k.0; size = k.1; short = k.2 }
+
 -- ---- count, where a call's table passes: x is what the entry and the bits say
 module _ (K : Kind) (t : List Line) (part : List ℕ) (n v i x : ℕ) (pass : judge t ≡ none) (small : v ≤ 1) (within : i ≤ n)
     (counted : Right K part n → x ≡ ones (bits_of K part n) i) where
@@ -322,25 +276,28 @@ module _ (K : Kind) (t : List Line) (part : List ℕ) (n v k x : ℕ) (pass : ju
       (λ right. sym (ap found (row_select_lem ∙ value_absent (bits_of K part n) n v k x (row_le K part n) small (total_is right) l)))
       Below.absent
 
-  -- the position that the entries lead to
-  module _ (p : ℕ) (more : k < of_value v n x) (place : Right K part n → k < rank_of (bits_of K part n) v n → p ≡ place_in n (select_of (bits_of K part n) n v k))
-    where
-      -- of a right row, it is the stroke's
-      place_is : Right K part n → (value p ≡ found (select (row_bits K part n) v k)) × (p < n)
-      place_is right =
-          let w = value_found (bits_of K part n) n v k x (row_le K part n) small (total_is right) more in
-          let e : p ≡ w.0 = place right (select_below (bits_of K part n) n v k w.0 w.1) ∙ ap (place_in n) w.1 in
-          (ap value e ∙ sym (ap found (row_select_lem ∙ w.1)), omega (arith, e, w.2))
+  -- the number of v that the record says is above k: a right row has the k-th v
+  module _ (more : k < of_value v n x) where
+    there : Right K part n → (p : ℕ) × (select_of (bits_of K part n) n v k ≡ some p) × (p < n)
+    there right = value_found (bits_of K part n) n v k x (row_le K part n) small (total_is right) more
 
-      -- a position below the length is the answer
-      pub select_done : p < n → Promise Told (judge t) refused (found (select (row_bits K part n) v k)) (Right K part n) (Below 15 n) (value p)
-      select_done l =
-          promise_passed t refused (found (select (row_bits K part n) v k)) (Right K part n) (Below 15 n) (value p) pass (λ right. (place_is right).0)
-          (Below.is p l)
+    few : Right K part n → k < rank_of (bits_of K part n) v n
+    few right = let w = there right in select_below (bits_of K part n) n v k w.0 w.1
 
-      -- none: no right row
-      pub select_past : n ≤ p → Promise Told (judge t) refused (found (select (row_bits K part n) v k)) (Right K part n) (Below 15 n) (refused 15)
-      select_past l =
-          promise_passed t refused (found (select (row_bits K part n) v k)) (Right K part n) (Below 15 n) (refused 15) pass
-          (λ right. absurd (omega (arith, (place_is right).1)))
-          Below.unfit
+    -- the position that the entries lead to is the answer
+    pub select_done : (p : ℕ) → p < n → (Right K part n → k < rank_of (bits_of K part n) v n → p ≡ place_in n (select_of (bits_of K part n) n v k))
+        → Promise Told (judge t) refused (found (select (row_bits K part n) v k)) (Right K part n) (Below 15 n) (value p)
+    select_done p l place =
+        promise_passed t refused (found (select (row_bits K part n) v k)) (Right K part n) (Below 15 n) (value p) pass
+        (λ right.
+        let w = there right in
+        ap value (place right (few right) ∙ ap (place_in n) w.1) ∙ sym (ap found (row_select_lem ∙ w.1)))
+        (Below.is p l)
+
+    -- none: no right row
+    pub select_past : (Right K part n → rank_of (bits_of K part n) v n ≤ k)
+        → Promise Told (judge t) refused (found (select (row_bits K part n) v k)) (Right K part n) (Below 15 n) (refused 15)
+    select_past empty =
+        promise_passed t refused (found (select (row_bits K part n) v k)) (Right K part n) (Below 15 n) (refused 15) pass
+        (λ right. absurd (omega (arith, few right, empty right)))
+        Below.unfit

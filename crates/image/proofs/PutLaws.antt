@@ -1,13 +1,16 @@
 -- Numbers as bytes, and stores into a list of bytes. Assumes nothing.
 use mathlib.Core.Path.{◌≡◌, refl, sym, ap, ap₂, ◌∙◌}
-use mathlib.Core.List.{List, [], ◌∷◌, ◌++◌, append_assoc}
+use mathlib.Core.List.{List, [], ◌∷◌, ◌++◌, append_assoc, append-nil}
 use Prim.Native.Nat.{ℕ, zero, suc, ◌+◌, ◌*◌, ◌-◌, ◌/◌, ◌%◌, ◌^◌, ◌≤◌, ◌<◌}
 use native.Mathlib.Nat.{add-zero, mod-lt, mod-one, zero-lt-suc, pow-succ', mul_assoc, mul_comm}
 use native.Mathlib.Omega.{arith}
 use lib.Arith.{mod-mul}
 use lib.Dec.{lit<}
 use lib.Pow.{shr-shr}
-use lib.ListN.{length, set, take, drop, get_or, length-set, drop_of_length-le}
+use lib.ListN.{length, set, take, drop, get_or, length-set, length-drop, drop_of_length-le}
+use borrow.Rule.Slice.PartMut.{put_mid}
+use Rattle.std.proofs.lemmas.List.{drop-drop}
+use Rattle.std.specs.Int.{w64, to_le_bytes}
 use lib.Seq.{sets, sets-eq, set_comm, drop-cons, drop_at, length-take-le, get_or-set_same, get_or-set_other, take_at}
 use Rattle.words.specs.Bits.{digits}
 use Rattle.words.proofs.DigitLaws.{field, field_zero, field_suc, digits_ext}
@@ -192,7 +195,38 @@ pub put_join : (s : List ℕ) (at m n a b : ℕ) → a < 256 ^ m → sets (sets 
 put_join s at m n a b h =
     sets_join (le m a) (le n b) s at (at + m) (omega (arith, length_le m a)) ∙ ap (sets s at) (sym (le_append m n a b h))
 
--- ---- the stores of `put_le`: what is still to be stored
+-- ---- a part that is lent
+pub lent_length : (s : List ℕ) (at k n : ℕ) → at + n ≤ length s → k ≡ n → length (take k (drop at s)) ≡ n
+lent_length s at k n h e = length-take-le k (drop at s) (omega (arith, length-drop at s)) ∙ e
+
+-- ---- the stores of `put_le` into a part of n bytes: what is still to be stored
+pub record Storing (s₀ : List ℕ) (n v : ℕ) (s : List ℕ) (i rest : ℕ) : Type 0 where
+  pub within : i ≤ n
+  pub same : sets s i (le (n - i) rest) ≡ sets s₀ 0 (le n v)
+
+-- one byte more
+pub storing_more : (s₀ : List ℕ) (n v : ℕ) (s : List ℕ) (i rest x : ℕ) → Storing s₀ n v s i rest → i < n → x ≡ rest % 256
+    → Storing s₀ n v (set s i x) (i + 1) (rest / 256)
+unfolding le
+storing_more s₀ n v s i rest x w h is =
+    let e : suc (n - (i + 1)) ≡ n - i = omega arith in
+    let f : i + 1 ≡ suc i = omega arith in
+    record {
+      within = omega arith;
+      same = ap₂ (λ (j y : ℕ). sets (set s i y) j (le (n - (i + 1)) (rest / 256))) f is ∙ ap (λ (k : ℕ). sets s i (le k rest)) e ∙ w.same;
+    }
+
+-- nothing is left
+pub storing_done : (s₀ : List ℕ) (n v : ℕ) (s : List ℕ) (i rest : ℕ) → Storing s₀ n v s i rest → length s₀ ≡ n → n ≤ i → s ≡ le n v
+unfolding le
+storing_done s₀ n v s i rest w l h =
+    let e : 0 ≡ n - i = omega arith in
+    ap (λ (k : ℕ). sets s i (le k rest)) e ∙ w.same
+    ∙ sets_front (le n v) s₀ (omega (arith, length_le n v))
+    ∙ ap (λ (t : List ℕ). le n v ++ t) (drop_of_length-le s₀ (omega (arith, length_le n v)))
+    ∙ append-nil (le n v)
+
+-- ---- the same among other bytes
 pub record Putting (s₀ : List ℕ) (at n v : ℕ) (s : List ℕ) (i rest : ℕ) : Type 0 where
   pub within : i ≤ n
   pub long : length s ≡ length s₀
@@ -228,35 +262,19 @@ putting_done s₀ at n v s i rest w h =
     let e : 0 ≡ n - i = omega arith in
     ap (λ (k : ℕ). sets s (at + i) (le k rest)) e ∙ w.same
 
--- ---- the stores of `put_bytes`: what is still to be stored
+-- ---- a part that was lent and has come back as b: b is stored there
+pub part_stored : (s b x : List ℕ) (at k : ℕ) → at + length b ≤ length s → k ≡ length b → x ≡ b → put_mid at k s x ≡ sets s at b
+part_stored s b x at k h e p =
+    ap (λ (l : List ℕ). take at s ++ (l ++ drop k (drop at s))) p
+    ∙ ap (λ (l : List ℕ). take at s ++ (b ++ l)) (drop-drop k at s ∙ ap (λ (m : ℕ). drop (at + m) s) e)
+    ∙ sym (append_assoc (take at s) b (drop (at + length b) s))
+    ∙ sym (sets-eq b s at h)
+
+-- ---- bytes stored one after another: what is still to be stored
 pub record Copying (s₀ : List ℕ) (at : ℕ) (b s : List ℕ) (i : ℕ) : Type 0 where
   pub within : i ≤ length b
   pub long : length s ≡ length s₀
   pub same : sets s (at + i) (drop i b) ≡ sets s₀ at b
-
--- nothing is stored yet
-pub copying_none : (s : List ℕ) (at : ℕ) (b : List ℕ) → Copying s at b s 0
-copying_none s at b =
-    let e : at + 0 ≡ at = omega arith in
-    record { within = omega arith; long = refl; same = ap (λ (j : ℕ). sets s j b) e }
-
--- one byte more
-pub copying_more : (s₀ : List ℕ) (at : ℕ) (b s : List ℕ) (i : ℕ) → Copying s₀ at b s i → i < length b → Copying s₀ at b (set s (at + i) (get_or b i 0)) (i + 1)
-copying_more s₀ at b s i w h =
-    let e : i + 1 ≡ suc i = omega arith in
-    let f : at + (i + 1) ≡ suc (at + i) = omega arith in
-    record {
-      within = omega arith;
-      long = length-set s (at + i) (get_or b i 0) ∙ w.long;
-      same =
-          ap₂ (λ (j k : ℕ). sets (set s (at + i) (get_or b i 0)) j (drop k b)) f e
-          ∙ ap (sets s (at + i)) (sym (drop-cons b i 0 h))
-          ∙ w.same;
-    }
-
--- nothing is left
-pub copying_done : (s₀ : List ℕ) (at : ℕ) (b s : List ℕ) (i : ℕ) → Copying s₀ at b s i → length b ≤ i → s ≡ sets s₀ at b
-copying_done s₀ at b s i w h = ap (sets s (at + i)) (sym (drop_of_length-le b h)) ∙ w.same
 
 -- ---- the stores of `put_word`
 -- the bytes of a word, by shifts
@@ -264,6 +282,11 @@ eight_bytes : (v : ℕ) → le 8 v
     ≡ v % 256 ∷ v / 2 ^ 8 % 256 ∷ v / 2 ^ 16 % 256 ∷ v / 2 ^ 24 % 256 ∷ v / 2 ^ 32 % 256 ∷ v / 2 ^ 40 % 256 ∷ v / 2 ^ 48 % 256 ∷ v / 2 ^ 56 % 256 ∷ []
 unfolding le
 eight_bytes v = rw (shr-shr v 8 8, shr-shr v 16 8, shr-shr v 24 8, shr-shr v 32 8, shr-shr v 40 8, shr-shr v 48 8) refl
+
+-- so are the bytes of a word, stored in the part lent for them
+pub word_lent : (s x : List ℕ) (at k v : ℕ) → at + 8 ≤ length s → k ≡ 8 → x ≡ to_le_bytes w64 v → put_mid at k s x ≡ sets s at (le 8 v)
+word_lent s x at k v h e p =
+    part_stored s (le 8 v) x at k (omega (arith, length_le 8 v)) (omega (arith, length_le 8 v)) (p ∙ sym (eight_bytes v))
 
 -- eight stores side by side
 eight_stores : (s : List ℕ) (at b0 b1 b2 b3 b4 b5 b6 b7 : ℕ)

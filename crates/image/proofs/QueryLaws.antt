@@ -11,8 +11,7 @@ use lib.Seq.{get_or_at}
 use lib.Dec.{leb, eqb}
 use borrow.Author.Tests.{eq-eqb, ne_eqb, le-leb, lt-leb, leb-false}
 use Rattle.words.specs.declared.refusal.Refusal.{Refusal}
-use Rattle.words.specs.declared.refusal.Answer.{Answer}
-use Rattle.words.specs.declared.refusal.Answer.TheVariants.{Value, Refused}
+use Rattle.std.specs.Prelude.{Result, Ok, Err}
 use Rattle.words.specs.Refusals.{Line, ◌⇒◌, judge, unless, value, refused, told_of}
 use Rattle.words.proofs.BoolLaws.{not_not}
 use Rattle.words.proofs.CheckLaws.{passes}
@@ -25,12 +24,12 @@ use Rattle.image.proofs.WalkLaws.{SoundWalk, Turn, walk_none, walk_turn, walk_do
 
 -- ---- the length of a row
 -- a refused opening's answer is the query's
-pub length_refused : (s : List ℕ) (label : ℕ) (o : Answer) (r : Refusal) → told_of o ≡ open_told s label → o ≡ Refused r → told_of o ≡ row_length_told s label
+pub length_refused : (s : List ℕ) (label : ℕ) (o : Result ℕ Refusal) (r : Refusal) → told_of o ≡ open_told s label → o ≡ Err r → told_of o ≡ row_length_told s label
 length_refused s label o r told refusal =
     ap told_of refusal ∙ ap (λ (v : Option ℕ). unless v refused (value (row_length s label))) (sym (opened_refused s label o r told refusal))
 
 -- the length of the record at the place that an opening gave is the row's
-pub length_opened : (s : List ℕ) (label : ℕ) (o : Answer) (at n : ℕ) → told_of o ≡ open_told s label → o ≡ Value at → n ≡ length_at s at
+pub length_opened : (s : List ℕ) (label : ℕ) (o : Result ℕ Refusal) (at n : ℕ) → told_of o ≡ open_told s label → o ≡ Ok at → n ≡ length_at s at
     → value n ≡ row_length_told s label
 length_opened s label o at n told place e =
     let k = opened_value s label o at told place in

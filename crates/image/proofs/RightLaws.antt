@@ -167,36 +167,36 @@ module _ (K : Kind) (F : KindFits K) {told : ℕ → ℕ → ℕ} (T : EntryTell
   no_right h = tells_right false (λ e. absurd (false≢true e)) (λ f. absurd (h f))
 
 -- ---- the inspection of a row
--- the word of position p, shifted to it
-module _ (s : List ℕ) (start p x : ℕ) (bits : (q : ℕ) → q < 64 → bit x q ≡ bit_from s (start + 8 * (p / 64)) q) where
-  -- its bits from there on
-  shifted : (q : ℕ) → p ≤ q → q < 64 * (p / 64 + 1) → bit (x / 2 ^ (p % 64)) (q - p) ≡ bit_from s start q
+-- word w without its first i bits
+module _ (s : List ℕ) (start w i x : ℕ) (bits : (q : ℕ) → q < 64 → bit x q ≡ bit_from s (start + 8 * w) q) where
+  -- its bits
+  shifted : (q : ℕ) → 64 * w + i ≤ q → q < 64 * (w + 1) → bit (x / 2 ^ i) (q - (64 * w + i)) ≡ bit_from s start q
   shifted q l h =
-      let i : p % 64 + (q - p) ≡ q - 64 * (p / 64) = omega arith in
-      let j : 64 * (p / 64) + (q - 64 * (p / 64)) ≡ q = omega arith in
-      bit_shr x (p % 64) (q - p)
-      ∙ ap (bit x) i
-      ∙ bits (q - 64 * (p / 64)) (omega arith)
-      ∙ bits_from s start (start + 8 * (p / 64)) (8 * (p / 64)) (64 * (p / 64)) (q - 64 * (p / 64)) refl (omega arith)
+      let k : i + (q - (64 * w + i)) ≡ q - 64 * w = omega arith in
+      let j : 64 * w + (q - 64 * w) ≡ q = omega arith in
+      bit_shr x i (q - (64 * w + i))
+      ∙ ap (bit x) k
+      ∙ bits (q - 64 * w) (omega arith)
+      ∙ bits_from s start (start + 8 * w) (8 * w) (64 * w) (q - 64 * w) refl (omega arith)
       ∙ ap (bit_from s start) j
 
   -- no one is left: they are zero
-  pub shifted_none : x / 2 ^ (p % 64) ≡ 0 → (q : ℕ) → p ≤ q → q < 64 * (p / 64 + 1) → bit_from s start q ≡ 0
-  shifted_none z q l h = sym (shifted q l h) ∙ ap (λ (y : ℕ). bit y (q - p)) z ∙ zero_bit (q - p)
+  pub shifted_none : x / 2 ^ i ≡ 0 → (q : ℕ) → 64 * w + i ≤ q → q < 64 * (w + 1) → bit_from s start q ≡ 0
+  shifted_none z q l h = sym (shifted q l h) ∙ ap (λ (y : ℕ). bit y (q - (64 * w + i))) z ∙ zero_bit (q - (64 * w + i))
 
   -- one is left: they are not
-  pub shifted_some : x < 2 ^ 64 → (x / 2 ^ (p % 64) ≡ 0 → ⊥) → ((q : ℕ) → p ≤ q → q < 64 * (p / 64 + 1) → bit_from s start q ≡ 0) → ⊥
+  pub shifted_some : x < 2 ^ 64 → (x / 2 ^ i ≡ 0 → ⊥) → ((q : ℕ) → 64 * w + i ≤ q → q < 64 * (w + 1) → bit_from s start q ≡ 0) → ⊥
   shifted_some lt left zeros =
-      let y : ℕ = x / 2 ^ (p % 64) in
-      let none : ones (bit y) 64 ≡ 0 = sum_none (bit y) 64 (λ i l. go i (lt_or (p % 64 + i) 64)) in
-      let most : 64 ≤ 64 + p % 64 = omega arith in
-      omega (arith, none, some_one y (shr_lt 64 (p % 64) (lt_of_lt_of_le lt (pow_mono most))) left)
+      let y : ℕ = x / 2 ^ i in
+      let none : ones (bit y) 64 ≡ 0 = sum_none (bit y) 64 (λ k l. go k (lt_or (i + k) 64)) in
+      let most : 64 ≤ 64 + i = omega arith in
+      omega (arith, none, some_one y (shr_lt 64 i (lt_of_lt_of_le lt (pow_mono most))) left)
     where
-      go : (i : ℕ) → (p % 64 + i < 64) ⊎ (64 ≤ p % 64 + i) → bit (x / 2 ^ (p % 64)) i ≡ 0
-      go i (inl l) =
-          let e : p + i - p ≡ i = omega arith in
-          ap (bit (x / 2 ^ (p % 64))) (sym e) ∙ shifted (p + i) (omega arith) (omega arith) ∙ zeros (p + i) (omega arith) (omega arith)
-      go i (inr l) = bit_shr x (p % 64) i ∙ bit_high x 64 (p % 64 + i) lt l
+      go : (k : ℕ) → (i + k < 64) ⊎ (64 ≤ i + k) → bit (x / 2 ^ i) k ≡ 0
+      go k (inl l) =
+          let e : 64 * w + i + k - (64 * w + i) ≡ k = omega arith in
+          ap (bit (x / 2 ^ i)) (sym e) ∙ shifted (64 * w + i + k) (omega arith) (omega arith) ∙ zeros (64 * w + i + k) (omega arith) (omega arith)
+      go k (inr l) = bit_shr x i k ∙ bit_high x 64 (i + k) lt l
 
 -- the ones up to the end of block j, from those before it
 pub block_more : (s block : List ℕ) (at j sum q : ℕ) → ((p : ℕ) → p < 512 → bit_at block p ≡ bit_from s (at + 64 * j) p) → sum ≡ ones (bit_from s at) (512 * j)

@@ -10,9 +10,7 @@ use lib.Seq.{length-take-le}
 use borrow.Author.Tests.{le-leb, eq-eqb}
 use Rattle.words.specs.Strip.{cell, rank, select, or_else}
 use Rattle.words.specs.declared.refusal.Refusal.{Refusal}
-use Rattle.words.specs.declared.refusal.Verdict.TheVariants.{Refuse}
-use Rattle.words.specs.declared.refusal.Answer.{Answer}
-use Rattle.words.specs.declared.refusal.Answer.TheVariants.{Value, Refused}
+use Rattle.std.specs.Prelude.{Result, Err}
 use Rattle.words.specs.Refusals.{number_of, Line, judge, unless, Told, value, refused, found, told_of}
 use Rattle.words.specs.Calls.{value_line, below_line, within_line, absent_line}
 use Rattle.words.proofs.CheckLaws.{judge_append}
@@ -24,7 +22,7 @@ use Rattle.image.specs.Chain.{kind_of, label_at, length_at, end_at}
 use Rattle.image.specs.Rows.{part_at, row_bits, Right}
 use Rattle.image.specs.Calls.{open_table, open_told, good_part, part_line, part_get_told, PartRanked, PartSelected, row_place, row_part, row_length, row_get_told, RowRanked, RowSelected}
 use Rattle.image.proofs.NumberLaws.{num_taken}
-use Rattle.image.proofs.ChainLaws.{RecordFacts, fields_good, opened, opened_value, opened_refused}
+use Rattle.image.proofs.ChainLaws.{RecordFacts, fields_good, opened, value_told, opened_refused}
 
 -- ---- the part that a record takes
 -- its size
@@ -80,7 +78,7 @@ table_opened K s label part n rest e g =
 
 -- ---- a reading by label
 -- a refused opening's answer is the reading's
-module _ (s : List ℕ) (label : ℕ) (o : Answer) (r : Refusal) (rest : List Line) (told : told_of o ≡ open_told s label) (refusal : o ≡ Refused r) where
+module _ (s : List ℕ) (label : ℕ) (o : Result ℕ Refusal) (r : Refusal) (rest : List Line) (told : told_of o ≡ open_told s label) (refusal : o ≡ Err r) where
   -- the table refuses with its number
   row_table_lem : judge (open_table s label ++ rest) ≡ some (number_of r)
   row_table_lem = table_refused s label (number_of r) rest (opened_refused s label o r told refusal)
@@ -94,7 +92,7 @@ module _ (s : List ℕ) (label : ℕ) (o : Answer) (r : Refusal) (rest : List Li
       → Promise Told (judge (open_table s label ++ rest)) refused late Fit Loose (told_of o)
   row_refused_promise late Fit Loose =
       subst (Promise Told (judge (open_table s label ++ rest)) refused late Fit Loose) (sym (ap told_of refusal))
-      (promise_refused (open_table s label ++ rest) refused late Fit Loose (Refuse r) r (sym row_table_lem) refl)
+      (promise_refused (open_table s label ++ rest) refused late Fit Loose (Err r) r (sym row_table_lem) refl)
 
 -- what is known of the kind, the part and the length of a row that was opened
 pub record RowHeld (K : Kind) (s : List ℕ) (label : ℕ) (part : List ℕ) (n : ℕ) : Type 0 where
@@ -105,10 +103,10 @@ pub record RowHeld (K : Kind) (s : List ℕ) (label : ℕ) (part : List ℕ) (n 
   pub good : good_part (kind_of s) (row_part s label) (row_length s label) ≡ true
 
 -- the place that an opening gave
-module _ (s : List ℕ) (label : ℕ) (o : Answer) (at : ℕ) (told : told_of o ≡ open_told s label) (place : o ≡ Value at) where
+module _ (s : List ℕ) (label : ℕ) (at : ℕ) (told : value at ≡ open_told s label) where
   -- the table passes, and it is the row's
   its_place : (judge (open_table s label) ≡ none) × (at ≡ row_place s label)
-  its_place = opened_value s label o at told place
+  its_place = value_told (judge (open_table s label)) at (row_place s label) told
 
   -- its record
   its_record : RecordFacts (kind_of s) s at

@@ -1,5 +1,5 @@
 -- The walk of a chain: what holds at the head of its loop, and how it goes on. Assumes nothing.
-use mathlib.Core.Path.{◌≡◌, refl, sym, ap, ◌∙◌}
+use mathlib.Core.Path.{◌≡◌, refl, sym, ap, ◌∙◌, subst}
 use mathlib.Core.Bool.{Bool, true, false, cond, not, ◌&&◌, ◌||◌}
 use mathlib.Core.List.{List, [], ◌∷◌, ◌++◌, append-nil}
 use mathlib.Core.Option.{Option, some, none}
@@ -10,15 +10,19 @@ use lib.Seq.{get_or-set_same, get_or-set_other, append_snoc}
 use lib.Dec.{eqb}
 use borrow.Author.Tests.{eq-eqb, ne_eqb, eqb-true, eqb-false}
 use Rattle.words.specs.Strip.{or_else}
-use Rattle.words.specs.Words.{place_in}
-use Rattle.image.specs.declared.chain.Scan.TheVariants.{Unsound, Sound}
+use Rattle.std.specs.Prelude.{Result, Ok, Err, Some, None, unwrap_or}
+use Rattle.std.proofs.lemmas.Option.{MatchOption-at_some}
+use Rattle.std.specs.Prelude as rust
+use Rattle.words.specs.declared.refusal.Refusal.{Refusal}
+use Rattle.words.specs.declared.refusal.Refusal.TheVariants.{Unsound}
+use Rattle.image.specs.declared.chain.Scan.{Scan}
 use Rattle.image.specs.Bytes.{num}
 use Rattle.image.specs.Layout.{unit_bytes, most_label}
 use Rattle.image.specs.Chain.{kind_of, next_at, label_at, end_at, sound_header, sound_record, among, in_front, chain_of, place_of, chain_end, link_of}
-use Rattle.image.specs.Calls.{records_in, records_of, record_with, row_place}
-use Rattle.image.specs.Walk.{scanned, scan_of}
+use Rattle.image.specs.Calls.{records_in, records_of, record_with}
+use Rattle.image.specs.Walk.{RecordAt, found_at, scanned, scan_of}
 use Rattle.image.proofs.ChainLaws.{no_confusion, header_sound, RecordFacts, record_facts, none_some, not_stopped, rest_from, rest_end, rest_unsound, rest_more, chain_rest, among_first, among_rest}
-use Rattle.image.proofs.ChainLaws.{place_append, link_last, end_last, chain_facts, chain_few, place_found, found_placed}
+use Rattle.image.proofs.ChainLaws.{place_append, link_last, end_last, chain_facts, chain_few}
 
 -- the records walked, and then others
 abbrev pub onto : List ℕ → Option (List ℕ) → Option (List ℕ)
@@ -84,13 +88,42 @@ unfoldable pub left : ℕ → ℕ → ℕ
 left n at = cond (eqb at 0) 0 (suc (n - at))
 
 -- a turn leaves less
-pub left_less : (s : List ℕ) (at : ℕ) → (at ≡ 0 → ⊥) → RecordFacts (kind_of s) s at → left (length s) (unit_bytes * next_at s at) < left (length s) at
+left_less : (s : List ℕ) (at : ℕ) → (at ≡ 0 → ⊥) → RecordFacts (kind_of s) s at → left (length s) (unit_bytes * next_at s at) < left (length s) at
 unfolding left
 left_less s at n f = simp (ne_eqb at 0 n) (go (eqb (unit_bytes * next_at s at) 0) refl)
   where
     go : (t : Bool) → eqb (unit_bytes * next_at s at) 0 ≡ t → cond t 0 (suc (length s - unit_bytes * next_at s at)) < suc (length s - at)
     go true p = omega arith
     go false p = omega (arith, f.room, f.ahead (λ z. eqb-false (unit_bytes * next_at s at) 0 p (omega arith)))
+
+-- ---- the record that a walk stands at, as the code has it
+-- P holds of its byte, or of 0 where the walk has ended
+pub record Standing (P : ℕ → Type 0) (o : rust.Option ℕ) : Type 0 where
+  pub byte : ℕ
+  pub stands : RecordAt o byte
+  pub holds : P byte
+
+-- at a record
+pub standing_here : {P : ℕ → Type 0} {o : rust.Option ℕ} {a : ℕ} → Standing P o → o ≡ Some a → P a × (a ≡ 0 → ⊥)
+standing_here {P} {o} {a} w e = let k = MatchOption-at_some (w.byte ≡ 0) (λ b. (b ≡ w.byte) × (0 < b)) a e w.stands in (subst P (sym k.0) w.holds, λ z. omega arith)
+
+-- at the end
+pub standing_end : {P : ℕ → Type 0} {o : rust.Option ℕ} → Standing P o → o ≡ None → P 0
+standing_end {P} {o} w e = go o e w.stands
+  where
+    go : (o : rust.Option ℕ) → o ≡ None → RecordAt o w.byte → P 0
+    go None e z = subst P z w.holds
+    go (Some a) e z = no_confusion cc
+
+-- the byte, 0 where the walk has ended
+standing_byte : (o : rust.Option ℕ) (x : ℕ) → RecordAt o x → unwrap_or o 0 ≡ x
+standing_byte None x z = sym z
+standing_byte (Some b) x z = z.0
+
+-- a turn leaves less
+pub left_turn : (s : List ℕ) (a : ℕ) (o q : rust.Option ℕ) → o ≡ Some a → (a ≡ 0 → ⊥) → RecordFacts (kind_of s) s a → RecordAt q (unit_bytes * next_at s a)
+    → left (length s) (unwrap_or q 0) < left (length s) (unwrap_or o 0)
+left_turn s a o q e n f z = rw (e, standing_byte q _ z) (left_less s a n f)
 
 -- ---- the walk of a sound chain
 -- one that stands at byte `at` after the records `past`
@@ -136,7 +169,7 @@ walk_done w z = ap records_in (sym (walked_done w.walked z))
 
 -- ---- the scan
 -- what a scan tells where the chain is not sound
-pub scan_unsound : (s : List ℕ) (label : ℕ) → chain_of s ≡ none → Unsound ≡ scan_of s label
+pub scan_unsound : (s : List ℕ) (label : ℕ) → chain_of s ≡ none → Err Unsound ≡ scan_of s label
 scan_unsound s label e = simp e
 
 -- one label more
@@ -161,7 +194,7 @@ absent_more s past met a h l e =
     place_append s l past (a ∷ []) ∙ simp (h l (among_rest l (label_at s a) met e), n)
 
 -- a walk with a flag for each label met, and what it tells of the records walked
-pub record Scanned (s : List ℕ) (label at : ℕ) (flags : List Bool) (link end found : ℕ) : Type 0 where
+pub record Scanned (s : List ℕ) (label at : ℕ) (flags : List Bool) (link end : ℕ) (found : rust.Option ℕ) : Type 0 where
   pub past : List ℕ
   pub met : List ℕ
   pub walked : Walked s at met past
@@ -170,10 +203,10 @@ pub record Scanned (s : List ℕ) (label at : ℕ) (flags : List Bool) (link end
   pub absent : (l : ℕ) → among l met ≡ false → place_of s l past ≡ none
   pub linked : link ≡ link_of past
   pub ended : end ≡ chain_end (kind_of s) s past
-  pub placed : found ≡ place_in 0 (place_of s label past)
+  pub placed : found ≡ found_at (place_of s label past)
 
 -- where it starts
-pub scanned_none : (s : List ℕ) (label : ℕ) → sound_header s ≡ true → Scanned s label (unit_bytes * num s 0 4) (replicate (most_label + 1) false) 0 unit_bytes 0
+pub scanned_none : (s : List ℕ) (label : ℕ) → sound_header s ≡ true → Scanned s label (unit_bytes * num s 0 4) (replicate (most_label + 1) false) 0 unit_bytes None
 unfolding link_of chain_end place_of among
 scanned_none s label h =
     record {
@@ -189,24 +222,25 @@ scanned_none s label h =
     }
 
 -- the label's record, with one record more
-pub placed_more : (s : List ℕ) (label at : ℕ) (past : List ℕ) (found : ℕ) → found ≡ place_in 0 (place_of s label past)
+pub placed_more : (s : List ℕ) (label at : ℕ) (past : List ℕ) (found : rust.Option ℕ) → found ≡ found_at (place_of s label past)
     → (label_at s at ≡ label → place_of s label past ≡ none)
-    → cond (eqb (label_at s at) label) at found ≡ place_in 0 (place_of s label (past ++ (at ∷ [])))
+    → cond (eqb (label_at s at) label) (Some at) found ≡ found_at (place_of s label (past ++ (at ∷ [])))
 unfolding place_of
-placed_more s label at past found e h = go (eqb (label_at s at) label) refl ∙ ap (place_in 0) (sym (place_append s label past (at ∷ [])))
+placed_more s label at past found e h = go (eqb (label_at s at) label) refl ∙ ap found_at (sym (place_append s label past (at ∷ [])))
   where
     or_none : (o : Option ℕ) → or_else o none ≡ o
     or_none none = refl
     or_none (some a) = refl
 
-    go : (t : Bool) → eqb (label_at s at) label ≡ t → cond t at found ≡ place_in 0 (or_else (place_of s label past) (cond (eqb (label_at s at) label) (some at) none))
+    go : (t : Bool) → eqb (label_at s at) label ≡ t
+        → cond t (Some at) found ≡ found_at (or_else (place_of s label past) (cond (eqb (label_at s at) label) (some at) none))
     go true p = simp (p, h (eqb-true _ _ p))
     go false p = simp (p, or_none) e
 
 -- a scan that stands at byte `at`, not at the end
-module _ {s : List ℕ} {label at : ℕ} {flags : List Bool} {link end found : ℕ} (w : Scanned s label at flags link end found) (n : at ≡ 0 → ⊥) where
+module _ {s : List ℕ} {label at : ℕ} {flags : List Bool} {link end : ℕ} {found : rust.Option ℕ} (w : Scanned s label at flags link end found) (n : at ≡ 0 → ⊥) where
   -- at a record that is not sound
-  pub scanned_unsound : sound_record (kind_of s) s at ≡ false → Unsound ≡ scan_of s label
+  pub scanned_unsound : sound_record (kind_of s) s at ≡ false → Err Unsound ≡ scan_of s label
   scanned_unsound h = scan_unsound s label (walked_stops w.walked n (simp h))
 
   -- at a sound one whose label, as the code has read it, has a flag or none
@@ -215,12 +249,12 @@ module _ {s : List ℕ} {label at : ℕ} {flags : List Bool} {link end found : �
     met_is : get_or flags here false ≡ among (label_at s at) w.met
     met_is = ap (λ (k : ℕ). get_or flags k false) q ∙ w.marks (label_at s at) (omega (arith, (record_facts (kind_of s) s at h).high))
 
-    pub scanned_again : get_or flags here false ≡ true → Unsound ≡ scan_of s label
+    pub scanned_again : get_or flags here false ≡ true → Err Unsound ≡ scan_of s label
     scanned_again m = let i = sym met_is ∙ m in scan_unsound s label (walked_stops w.walked n (simp (h, i)))
 
     -- a turn
-    pub scanned_more : (next last spot : ℕ) → next ≡ unit_bytes * next_at s at → last ≡ end_at (kind_of s) s at → get_or flags here false ≡ false
-        → spot ≡ cond (eqb here label) at found → Scanned s label next (set flags here true) at last spot
+    pub scanned_more : (next last : ℕ) (spot : rust.Option ℕ) → next ≡ unit_bytes * next_at s at → last ≡ end_at (kind_of s) s at → get_or flags here false ≡ false
+        → spot ≡ cond (eqb here label) (Some at) found → Scanned s label next (set flags here true) at last spot
     scanned_more next last spot p e m f =
         let i : label_at s at < most_label + 1 = omega (arith, (record_facts (kind_of s) s at h).high) in
         let u : among (label_at s at) w.met ≡ false = sym met_is ∙ m in
@@ -236,27 +270,27 @@ module _ {s : List ℕ} {label at : ℕ} {flags : List Bool} {link end found : �
           ended = e ∙ sym (end_last (kind_of s) s w.past at);
           placed =
               f
-              ∙ ap (λ (l : ℕ). cond (eqb l label) at found) q
+              ∙ ap (λ (l : ℕ). cond (eqb l label) (Some at) found) q
               ∙ placed_more s label at w.past found w.placed (λ z. rw (← z) (w.absent (label_at s at) u));
         })
 
 -- where it ends
-pub scanned_done : {s : List ℕ} {label at : ℕ} {flags : List Bool} {link end found : ℕ} → Scanned s label at flags link end found → at ≡ 0
-    → Sound link end found ≡ scan_of s label
+pub scanned_done : {s : List ℕ} {label at : ℕ} {flags : List Bool} {link end : ℕ} {found : rust.Option ℕ} → Scanned s label at flags link end found
+    → at ≡ 0 → Ok (record { link = link; end = end; found = found }) ≡ scan_of s label
 scanned_done {s} {label} w z = simp (walked_done w.walked z, w.linked, w.ended, w.placed)
 
 -- what a scan of a sound chain tells
-pub record ScanFacts (s : List ℕ) (label link end found : ℕ) : Type 0 where
+pub record ScanFacts (s : List ℕ) (label : ℕ) (scan : Scan) : Type 0 where
   pub chain : chain_of s ≡ some (records_of s)
-  pub linked : link ≡ link_of (records_of s)
-  pub ended : end ≡ chain_end (kind_of s) s (records_of s)
-  pub placed : found ≡ row_place s label
+  pub linked : scan.link ≡ link_of (records_of s)
+  pub ended : scan.end ≡ chain_end (kind_of s) s (records_of s)
+  pub placed : scan.found ≡ found_at (record_with s label)
 
 -- a scan that is told sound
-pub scan_facts : (s : List ℕ) (label link end found : ℕ) → Sound link end found ≡ scan_of s label → ScanFacts s label link end found
-scan_facts s label link end found e = go (chain_of s) refl e
+pub scan_facts : (s : List ℕ) (label : ℕ) (r : Result Scan Refusal) (scan : Scan) → r ≡ scan_of s label → r ≡ Ok scan → ScanFacts s label scan
+scan_facts s label r scan e d = go (chain_of s) refl (sym d ∙ e)
   where
-    go : (o : Option (List ℕ)) → chain_of s ≡ o → Sound link end found ≡ scanned s label o → ScanFacts s label link end found
+    go : (o : Option (List ℕ)) → chain_of s ≡ o → ◌≡◌ {A = Result Scan Refusal} (Ok scan) (scanned s label o) → ScanFacts s label scan
     go none p q = no_confusion cc
     go (some rs) p q =
         let r : records_of s ≡ rs = ap records_in p in
@@ -266,29 +300,3 @@ scan_facts s label link end found e = go (chain_of s) refl e
           ended = rw r cc;
           placed = rw r cc;
         }
-
--- a scan that is told unsound
-pub scan_none : (s : List ℕ) (label : ℕ) → Unsound ≡ scan_of s label → chain_of s ≡ none
-scan_none s label e = go (chain_of s) refl e
-  where
-    go : (o : Option (List ℕ)) → chain_of s ≡ o → Unsound ≡ scanned s label o → chain_of s ≡ none
-    go none p q = p
-    go (some rs) p q = no_confusion cc
-
--- a record never starts at byte 0: the place 0 says that no record has the label
-pub scan_absent : {s : List ℕ} {label link end found : ℕ} → ScanFacts s label link end found → found ≡ 0 → record_with s label ≡ none
-scan_absent {s} {label} {link} {end} {found} f z = go (record_with s label) refl
-  where
-    go : (o : Option ℕ) → record_with s label ≡ o → record_with s label ≡ none
-    go none p = p
-    go (some a) p =
-        let k = found_placed s (records_of s) label a (chain_facts s (records_of s) f.chain) (place_found s label (records_of s) a p) in
-        absurd (omega (arith, k.past, ap (place_in 0) p, f.placed))
-
--- any other is the place of its record
-pub scan_found : {s : List ℕ} {label link end found : ℕ} → ScanFacts s label link end found → (found ≡ 0 → ⊥) → record_with s label ≡ some found
-scan_found {s} {label} {link} {end} {found} f n = go (record_with s label) refl
-  where
-    go : (o : Option ℕ) → record_with s label ≡ o → record_with s label ≡ some found
-    go none p = absurd (n (f.placed ∙ ap (place_in 0) p))
-    go (some a) p = p ∙ ap some (sym (f.placed ∙ ap (place_in 0) p))

@@ -8,13 +8,13 @@ use native.Mathlib.Omega.{arith}
 use lib.Bits.{bit_and, and_mask}
 use lib.Dec.{lit<}
 use lib.Pow.{pow_pos}
-use lib.ListN.{length, set, drop, get_or, length-append, length-replicate, get_or-replicate, get_or-append, get_or-eq_default}
+use lib.ListN.{length, set, take, drop, replicate, get_or, length-append, length-replicate, get_or-replicate, get_or-append, get_or-eq_default}
 use lib.Seq.{sets, length-sets, ext_get_or, drop-drop, drop-append_seam, get_or-drop}
 use Rattle.words.specs.Bits.{bit, bit_at, ones, digits, list_of}
 use Rattle.words.specs.Strip.{cell, strip_of, rank}
 use Rattle.words.proofs.Sums.{lt_or, sum_zero, sum_split, sum_ext, ones_le, length_list_of, get_or_list_of, sum_const, sum_none}
 use Rattle.words.proofs.BitLaws.{zero_bit, bit_shr, bit_mod, bit_high}
-use Rattle.words.proofs.WordLaws.{word_bit}
+use Rattle.words.proofs.WordLaws.{word_bit, block_bit}
 use Rattle.words.proofs.DigitLaws.{field, digits_ext, digits_at, digits_of}
 use Rattle.words.proofs.StripLaws.{total_ones, strip_cell}
 use Rattle.image.specs.declared.write.Target.{Target}
@@ -23,9 +23,9 @@ use Rattle.image.specs.Kinds.{Kind}
 use Rattle.image.specs.Layout.{unit_bytes, head_bytes, most_row, superblock_blocks, superblock_bytes, superblocks_of, entries_bytes, pad_bytes, bits_start, size_of, entry_of, entries_from, zeros, bytes_of, record_of}
 use Rattle.image.specs.Rows.{row_bits, Right}
 use Rattle.image.specs.Chain.{header_of}
-use Rattle.image.specs.Writing.{word_cells, BitsPut, CountedPut, SuperblockPut, RowPut}
+use Rattle.image.specs.Writing.{block_cells, BitsPut, CountedPut, SuperblockPut, RowPut}
 use Rattle.image.proofs.KindLaws.{KindFits, EntryTells, times_more, bytes_all, superblocks_cover, superblock_begins, pad_ends}
-use Rattle.image.proofs.CountLaws.{counts_all, Counting, counting_none, counting_more, counting_done}
+use Rattle.image.proofs.CountLaws.{counts_all, Counting, counting_none, counting_more}
 use Rattle.image.proofs.PutLaws.{length_le, le_small, num_of, sets_join, sets_comm, sets_front}
 
 -- ---- lists by their elements
@@ -456,25 +456,26 @@ module _ (g : ℕ → ℕ) (at : ℕ) (s : List ℕ) where
   pub bits_le : (t : List ℕ) (m r : ℕ) → BitsPut g m at s t r → ((p : ℕ) → g p ≤ 1) → r ≤ 8 * m
   bits_le t m r x h = omega (arith, x.count, ones_le g (8 * m) h)
 
-  -- the number of bytes, otherwise
-  pub bits_size : (t : List ℕ) (m n r : ℕ) → BitsPut g m at s t r → m ≡ n → BitsPut g n at s t r
-  bits_size t m n r x e = subst (λ (k : ℕ). BitsPut g k at s t r) e x
-
 -- a block before the length
-pub block_whole : (ws : List ℕ) (n w at : ℕ) (s t block : List ℕ) (r : ℕ) → 64 * w + 512 ≤ n
-    → ((j : ℕ) → j < 8 → get_or block j 0 ≡ get_or ws (w + j) 0) → BitsPut (bit_at block) 64 at s t r → BitsPut (word_cells (strip_of ws n) w) 64 at s t r
-block_whole ws n w at s t block r h words x =
-    bits_ext (word_cells (strip_of ws n) w) at s (bit_at block) t 64 r x
-    (λ p l.
-    let e : 64 * (w + p / 64) + p % 64 ≡ 64 * w + p = omega arith in
-    ap (λ (v : ℕ). bit v (p % 64)) (words (p / 64) (omega arith))
-    ∙ word_all ws n (w + p / 64) (p % 64) (omega arith) (omega arith)
-    ∙ ap (cell (strip_of ws n)) e)
+pub block_whole : (ws : List ℕ) (n b : ℕ) (block : List ℕ) (p : ℕ) → block ≡ take 8 (drop (8 * b) ws) → 512 * b + 512 ≤ n → p < 512
+    → bit_at block p ≡ block_cells (strip_of ws n) b p
+block_whole ws n b block p e h l =
+    ap (λ (x : List ℕ). bit_at x p) e ∙ block_bit ws b 8 p refl l ∙ sym (strip_cell ws n (512 * b + p) (omega arith))
 
 -- a block past it
-pub block_past : (ws : List ℕ) (n w at : ℕ) (s t : List ℕ) → n ≤ 64 * w → BitsPut (λ p. 0) 64 at s t 0 → BitsPut (word_cells (strip_of ws n) w) 64 at s t 0
-block_past ws n w at s t h x =
-    bits_ext (word_cells (strip_of ws n) w) at s (λ p. 0) t 64 0 x (λ p l. sym (strip_past ws n (64 * w + p) (omega arith)))
+pub block_past : (ws : List ℕ) (n b p : ℕ) → n ≤ 512 * b → 0 ≡ block_cells (strip_of ws n) b p
+block_past ws n b p h = sym (strip_past ws n (512 * b + p) (omega arith))
+
+-- zeros are the bytes of no ones
+zero_bytes : (m : ℕ) → replicate m 0 ≡ bytes_of (λ p. 0) m
+unfolding list_of digits
+zero_bytes zero = refl
+zero_bytes (suc m) = ap (λ (l : List ℕ). 0 ∷ l) (zero_bytes m)
+
+-- zeros stored
+pub zeros_put : (at m : ℕ) (s t : List ℕ) → t ≡ sets s at (replicate m 0) → BitsPut (λ p. 0) m at s t 0
+zeros_put at m s t e =
+    record { same = e ∙ ap (sets s at) (zero_bytes m); count = sym (sum_none (λ p. 0) (8 * m) (λ p l. refl)) }
 
 -- one word more
 pub word_more : (g : ℕ → ℕ) (at : ℕ) (s t u : List ℕ) (j x r q : ℕ) → BitsPut g (8 * j) at s t r → u ≡ sets t (at + 8 * j) (le 8 x)
@@ -483,12 +484,6 @@ word_more g at s t u j x r q w e same c =
     let place : (p : ℕ) → 64 * j + p ≡ 8 * (8 * j) + p = λ p. omega arith in
     bits_more g at s t u (8 * j) 8 (8 * (j + 1)) r q w
     (bits_word (λ p. g (8 * (8 * j) + p)) (at + 8 * j) t u x q e (λ p l. same p l ∙ ap g (place p)) c) (omega arith)
-
--- a word of zeros more
-pub zero_more : (at : ℕ) (s t u : List ℕ) (j : ℕ) → BitsPut (λ p. 0) (8 * j) at s t 0 → u ≡ sets t (at + 8 * j) (le 8 0)
-    → BitsPut (λ p. 0) (8 * (j + 1)) at s u 0
-zero_more at s t u j w e =
-    word_more (λ p. 0) at s t u j 0 0 0 w e (λ p l. zero_bit p) (sym (sum_none (bit 0) 64 (λ p l. zero_bit p)))
 
 -- ---- a superblock stored and counted block by block
 pub record Blocks (K : Kind) (g : ℕ → ℕ) (at : ℕ) (s t counts : List ℕ) (sum j : ℕ) : Type 0 where
@@ -507,15 +502,6 @@ module _ (K : Kind) (g : ℕ → ℕ) (at : ℕ) (s : List ℕ) where
       let put : BitsPut g (64 * (j + 1)) at s u (sum + q) = bits_more g at s t u (64 * j) 64 (64 * (j + 1)) sum q x.put b (omega arith) in
       let whole : 8 * (64 * (j + 1)) ≡ 512 * (j + 1) = omega arith in
       record { put = put; counting = counting_more K g counts sum j (sum + q) x.counting h (put.count ∙ ap (ones g) whole) }
-
-  -- all are stored
-  pub blocks_done : KindFits K → (t counts : List ℕ) (sum j : ℕ) → Blocks K g at s t counts sum j → superblock_blocks K ≤ j → CountedPut K g at s t counts
-  blocks_done F t counts sum j x h =
-      let e : 64 * j ≡ superblock_bytes K = omega (arith, x.counting.within, F.whole) in
-      record {
-        same = (bits_size g at s t (64 * j) (superblock_bytes K) sum x.put e).same;
-        counted = counting_done K g counts sum j x.counting h;
-      }
 
 -- ---- a superblock stored: its bits, then its entry
 pub superblock_stored : (K : Kind) → KindFits K → (g : ℕ → ℕ) (to : Target) (s t u counts : List ℕ) (v last : ℕ) → to.entry + K.entry_bytes ≤ to.bits

@@ -1,6 +1,6 @@
 -- Derived, for inner contracts: what the entries of a row's part tell, where a search over its blocks of 512 bits stands, the position found, the padding, and
 -- the bytes that pad the entries. Laws in proofs/ tie them to the definitions. Assumes nothing.
-use Rattle.std.specs.Prelude.{ℕ, ◌+◌, ◌*◌, ◌/◌, ◌%◌, ◌≤◌, ◌<◌, ◌≡◌, List, ◌⊎◌, length, get_or}
+use Rattle.std.specs.Prelude.{ℕ, ◌+◌, ◌*◌, ◌/◌, ◌%◌, ◌≤◌, ◌<◌, ◌≡◌, List, ◌⊎◌, length, get_or, Option, MatchOption}
 use Rattle.words.specs.Strip.{cell, rank_of, select_of}
 use Rattle.words.specs.Words.{place_in}
 use Rattle.image.specs.Bytes.{num, bit_from}
@@ -25,10 +25,11 @@ pub record Halved (P : ℕ → ℕ) (end k lo hi : ℕ) : Type 0 where
   pub low : (lo ≡ 0) ⊎ (P lo ≤ k)
   pub high : (end ≤ hi) ⊎ (k < P hi)
 
--- r is at most n, and of a right row with more than k of v the position of the k-th v
-abbrev pub PositionIn : Kind → List ℕ → ℕ → ℕ → ℕ → ℕ → Type 0
-PositionIn K part n v k r =
-    (r ≤ n) × (Right K part n → k < rank_of (cell (row_bits K part n)) v n → r ≡ place_in n (select_of (cell (row_bits K part n)) n v k))
+-- o is, of a right row, the position of the k-th v, if there is one; of any row it is below n
+abbrev pub PositionIn : Kind → List ℕ → ℕ → ℕ → ℕ → Option ℕ → Type 0
+PositionIn K part n v k o =
+    MatchOption o (Right K part n → rank_of (cell (row_bits K part n)) v n ≤ k)
+    (λ p. (p < n) × (Right K part n → k < rank_of (cell (row_bits K part n)) v n → p ≡ place_in n (select_of (cell (row_bits K part n)) n v k)))
 
 -- the bits of a row's part past its length n are zero, to the end of its last superblock
 abbrev pub PaddingZero : Kind → List ℕ → ℕ → Type 0

@@ -1,5 +1,5 @@
 -- Derived, for inner contracts: what is stored while a record is written. Laws in proofs/ tie it to the layout. Assumes nothing.
-use Rattle.std.specs.Prelude.{ℕ, ◌+◌, ◌*◌, ◌<◌, ◌≤◌, ◌≡◌, List, length, get_or}
+use Rattle.std.specs.Prelude.{ℕ, ◌+◌, ◌*◌, ◌<◌, ◌≤◌, ◌≡◌, List, length, get_or, Result, Ok, Err}
 use Rattle.std.proofs.lemmas.List.Edits.{sets}
 use Rattle.words.specs.Bits.{ones}
 use Rattle.words.specs.Handles.{block_bits}
@@ -7,8 +7,8 @@ use Rattle.words.specs.Strip.{cell}
 use Rattle.words.specs.declared.handle.Handle.{Handle}
 use Rattle.words.specs.Refusals.{number_of, judge, unless}
 use Rattle.image.specs.declared.write.Target.{Target}
+use Rattle.words.specs.declared.refusal.Refusal.{Refusal}
 use Rattle.image.specs.declared.freezing.Place.{Place}
-use Rattle.image.specs.declared.freezing.Place.TheVariants as place
 use Rattle.image.specs.Bytes.{le}
 use Rattle.image.specs.Kinds.{Kind}
 use Rattle.image.specs.Layout.{superblock_blocks, superblock_bytes, most_row, entries_from, bytes_of}
@@ -20,9 +20,9 @@ pub data PlaceTold : Type 0 where
   at : ℕ → ℕ → PlaceTold
   nowhere : ℕ → PlaceTold
 
-abbrev pub place_told : Place → PlaceTold
-place_told (place.At l a) = at l a
-place_told (place.Refused r) = nowhere (number_of r)
+abbrev pub place_told : Result Place Refusal → PlaceTold
+place_told (Ok p) = at p.link p.start
+place_told (Err r) = nowhere (number_of r)
 
 -- that of a record of so many bytes
 abbrev pub new_place : List ℕ → ℕ → ℕ → PlaceTold
@@ -47,9 +47,9 @@ pub record CountedPut (K : Kind) (g : ℕ → ℕ) (at : ℕ) (s t counts : List
   pub same : t ≡ sets s at (bytes_of g (superblock_bytes K))
   pub counted : BlockCounts K g counts
 
--- the bits of a strip from word w on, and those of its superblock e
-abbrev pub word_cells : List ℕ → ℕ → ℕ → ℕ
-word_cells t w p = cell t (64 * w + p)
+-- the bits of a strip from its block b on, and those of its superblock e
+abbrev pub block_cells : List ℕ → ℕ → ℕ → ℕ
+block_cells t b p = cell t (block_bits * b + p)
 
 abbrev pub superblock_cells : Kind → List ℕ → ℕ → ℕ → ℕ
 superblock_cells K t e p = cell t (K.superblock_bits * e + p)

@@ -3,9 +3,6 @@ ghost use Rattle.std.specs.Prelude.{◌≡◌, ℕ, ◌+◌, ◌^◌, ◌<◌, �
 ghost use Rattle.words.specs.Bits.{bit};
 ghost use Rattle.image.specs.Bytes.{num, bit_from};
 
-// The weight of a word's high half.
-const HIGH_HALF: u64 = 1 << 32;
-
 // One byte as a number.
 pub fn byte_at(s: &[u8], at: usize) -> u64
     requires { at < length s.now }
@@ -14,23 +11,12 @@ pub fn byte_at(s: &[u8], at: usize) -> u64
     s[at] as u64
 }
 
-// The number of four bytes.
-pub fn u32_at(s: &[u8], at: usize) -> u64
-    requires { at + 4 ≤ length s.now }
-    ensures { (result ≡ num s.now at 4) × (result < 2 ^ 32) }
-{
-    byte_at(s, at)
-        + 256 * byte_at(s, at + 1)
-        + 65536 * byte_at(s, at + 2)
-        + 16777216 * byte_at(s, at + 3)
-}
-
 // The number of eight bytes, whose bits are theirs.
 pub fn u64_at(s: &[u8], at: usize) -> u64
     requires { at + 8 ≤ length s.now }
     ensures { (result ≡ num s.now at 8) × ((p : ℕ) → p < 64 → bit result p ≡ bit_from s.now at p) }
 {
-    u32_at(s, at) + HIGH_HALF * u32_at(s, at + 4)
+    u64::from_le_bytes(s[at..at + 8].try_into().unwrap())
 }
 
 // The number of four bytes, as an index or a length.
@@ -38,5 +24,5 @@ pub fn index_at(s: &[u8], at: usize) -> usize
     requires { at + 4 ≤ length s.now }
     ensures { (result ≡ num s.now at 4) × (result < 2 ^ 32) }
 {
-    u32_at(s, at) as usize
+    u32::from_le_bytes(s[at..at + 4].try_into().unwrap()) as usize
 }

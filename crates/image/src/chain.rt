@@ -8,16 +8,14 @@ use super::fields::{fields_good, first_record, label_at, next_record, record_end
 use super::layout::{
     HEAD_BYTES, KIND, KIND_OFFSET, MOST_LABEL, UNIT_BYTES, ZEROS_OFFSET, size_good,
 };
+use words::Refusal;
 
-// What one walk of the chain tells: where the index that ends it stands, where its last record ends, and where the label's record starts, 0 for none.
-#[derive(Clone, Copy)]
-pub enum Scan {
-    Unsound,
-    Sound {
-        link: usize,
-        end: usize,
-        found: usize,
-    },
+// What one walk of a sound chain tells: where the index that ends it stands, where its last record ends, and where the label's record starts.
+#[derive(Clone, Copy, Debug, PartialEq, Eq, Hash)]
+pub struct Scan {
+    pub link: usize,
+    pub end: usize,
+    pub found: Option<usize>,
 }
 
 // Whether the image has 16 to 2^32 bytes and its header is right.
@@ -33,7 +31,7 @@ pub fn header_sound(image: &[u8]) -> bool
     u64_at(image, ZEROS_OFFSET) == 0
 }
 
-// Whether the record at byte `at` lies inside the image, has a label and a length in range, and has a next that is zero or not before its end.
+// Whether the record at byte `at` lies inside the image, has a label and a length in range, and has no next or one not before its end.
 pub fn record_sound(image: &[u8], at: usize) -> bool
     ensures { result ≡ sound_record (kind_of image.now) image.now at }
 {
@@ -51,40 +49,40 @@ pub fn record_sound(image: &[u8], at: usize) -> bool
     if n < end {
         return false;
     }
-    let next = next_record(image, at);
-    if next == 0 {
-        return true;
+    match next_record(image, at) {
+        Some(next) => end <= next,
+        None => true,
     }
-    end <= next
 }
 
-// One walk of the whole chain, which reads three numbers of each record: next index, label and length. `met` has a flag for each label met so far.
-pub fn scan_chain(image: &[u8], label: usize) -> Scan
+// One walk of the whole chain, which reads three numbers of each record: next index, label and length. `met` has a flag for each label met so far. 10 where
+// the chain is not sound.
+pub fn scan_chain(image: &[u8], label: usize) -> Result<Scan, Refusal>
     ensures { result ≡ scan_of image.now label }
 {
     if !header_sound(image) {
-        return Scan::Unsound;
+        return Err(Refusal::Unsound);
     }
-    let mut at = first_record(image);
+    let mut next = first_record(image);
     let mut met = [false; MOST_LABEL + 1];
     let mut link: usize = 0;
     let mut end = UNIT_BYTES;
-    let mut found: usize = 0;
-    while at != 0 {
+    let mut found = None;
+    while let Some(at) = next {
         if !record_sound(image, at) {
-            return Scan::Unsound;
+            return Err(Refusal::Unsound);
         }
         let here = label_at(image, at);
         if met[here] {
-            return Scan::Unsound;
+            return Err(Refusal::Unsound);
         }
         met[here] = true;
         if here == label {
-            found = at;
+            found = Some(at);
         }
         link = at;
         end = record_end(image, at);
-        at = next_record(image, at);
+        next = next_record(image, at);
     }
-    Scan::Sound { link, end, found }
+    Ok(Scan { link, end, found })
 }

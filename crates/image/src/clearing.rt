@@ -8,7 +8,7 @@ ghost use Rattle.image.specs.Calls.{image_outcome, clear_outcome};
 
 use super::layout::{KIND, KIND_OFFSET, UNIT_BYTES, ZEROS_OFFSET, size_good};
 use super::put::{put_le, put_word};
-use words::{Answer, Refusal};
+use words::Refusal;
 
 // Writes the header, with the first record's unit index, and no other byte.
 pub fn put_header(image: &mut [u8], first: usize)
@@ -21,12 +21,12 @@ pub fn put_header(image: &mut [u8], first: usize)
 }
 
 // clear: the header of an empty chain, and no other byte.
-pub fn clear(image: &mut [u8]) -> Answer
+pub fn clear(image: &mut [u8]) -> Result<u64, Refusal>
     ensures { image_outcome (told_of result) image.new ≡ clear_outcome image.old }
 {
     if !size_good(image.len()) {
-        return Answer::Refused(Refusal::NoRoom);
+        return Err(Refusal::NoRoom);
     }
     put_header(image, 0);
-    Answer::Value(UNIT_BYTES as u64)
+    Ok(UNIT_BYTES as u64)
 }

@@ -3,24 +3,26 @@ ghost use Rattle.std.specs.Prelude.{◌≡◌, ◌+◌, ◌*◌, ◌^◌, ◌<�
 ghost use Rattle.image.specs.Bytes.{num};
 ghost use Rattle.image.specs.Layout.{unit_bytes, head_bytes};
 ghost use Rattle.image.specs.Chain.{kind_of, next_at, label_at, length_at, ones_at, end_at, good_fields};
+ghost use Rattle.image.specs.Walk.{RecordAt};
 
 use super::bytes::index_at;
 use super::layout::{
     LABEL_OFFSET, LENGTH_OFFSET, MOST_ROW, ONES_OFFSET, UNIT_BYTES, label_good, record_size,
 };
 
-// The byte where the record starts that follows the one at byte `at`, or the header at byte 0; 0 for none.
-pub fn next_record(image: &[u8], at: usize) -> usize
+// The byte where the record starts that follows the one at byte `at`, or the header at byte 0.
+pub fn next_record(image: &[u8], at: usize) -> Option<usize>
     requires { at + head_bytes ≤ length image.now }
-    ensures { result ≡ unit_bytes * next_at image.now at }
+    ensures { RecordAt result (unit_bytes * next_at image.now at) }
 {
-    UNIT_BYTES * index_at(image, at)
+    let next = UNIT_BYTES * index_at(image, at);
+    if next == 0 { None } else { Some(next) }
 }
 
-// The byte where the first record starts; 0 for none.
-pub fn first_record(image: &[u8]) -> usize
+// The byte where the first record starts.
+pub fn first_record(image: &[u8]) -> Option<usize>
     requires { head_bytes ≤ length image.now }
-    ensures { result ≡ unit_bytes * num image.now 0 4 }
+    ensures { RecordAt result (unit_bytes * num image.now 0 4) }
 {
     next_record(image, 0)
 }

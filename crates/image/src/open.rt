@@ -6,31 +6,27 @@ ghost use Rattle.image.specs.Chain.{kind_of, end_at};
 ghost use Rattle.image.specs.Rows.{part_at};
 ghost use Rattle.image.specs.Calls.{open_told, open_part, held_length};
 
-use super::chain::{Scan, scan_chain};
+use super::chain::scan_chain;
 use super::fields::{length_at, record_end};
 use super::layout::{HEAD_BYTES, label_good};
-use words::{Answer, Refusal};
+use words::Refusal;
 
 // The byte where the label's record starts.
-pub fn open_row(image: &[u8], label: usize) -> Answer
+pub fn row_start(image: &[u8], label: usize) -> Result<usize, Refusal>
     ensures { told_of result ≡ open_told image.now label }
 {
-    match scan_chain(image, label) {
-        Scan::Unsound => Answer::Refused(Refusal::Unsound),
-        Scan::Sound {
-            link: _,
-            end: _,
-            found,
-        } => {
-            if !label_good(label) {
-                return Answer::Refused(Refusal::BadLabel);
-            }
-            if found == 0 {
-                return Answer::Refused(Refusal::LabelAbsent);
-            }
-            Answer::Value(found as u64)
-        }
+    let scan = scan_chain(image, label)?;
+    if !label_good(label) {
+        return Err(Refusal::BadLabel);
     }
+    scan.found.ok_or(Refusal::LabelAbsent)
+}
+
+// The same, as the answer of a call.
+pub fn open_row(image: &[u8], label: usize) -> Result<u64, Refusal>
+    ensures { told_of result ≡ open_told image.now label }
+{
+    Ok(row_start(image, label)? as u64)
 }
 
 // The part of the image that the record at byte `at` takes.
@@ -43,17 +39,18 @@ pub fn record_part(image: &[u8], at: usize) -> &[u8]
 }
 
 // The row's own part of the image, from its record's start to its end; empty where the opening is refused.
+// Kept: an empty part, and not a Result: Calls.open_part promises it.
 pub fn row_part(image: &[u8], label: usize) -> &[u8]
     ensures { result.now ≡ open_part image.now label }
 {
-    let o = open_row(image, label);
-    let Answer::Value(at) = o else {
-        return &image[..0];
-    };
-    record_part(image, at as usize)
+    match row_start(image, label) {
+        Ok(at) => record_part(image, at),
+        Err(_) => &image[..0],
+    }
 }
 
 // The length that a row's part gives; 0 for a part too short for a record.
+// Kept: 0, and not None: Calls.held_length promises it.
 pub fn held_length(part: &[u8]) -> usize
     ensures { result ≡ held_length part.now }
 {

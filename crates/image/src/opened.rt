@@ -6,7 +6,7 @@ ghost use Rattle.image.specs.Calls.{open_part, held_length, part_get_told, PartR
 
 use super::open::{held_length, row_part};
 use super::part::{part_get, part_rank, part_select};
-use words::Answer;
+use words::Refusal;
 
 // An opened row: its own part of the image, and its length in bits.
 #[derive(Clone, Copy)]
@@ -32,21 +32,21 @@ impl<'a> Row<'a> {
     }
 
     // look(i): the bit at position i.
-    pub fn get(self, i: usize) -> Answer
+    pub fn get(self, i: usize) -> Result<u64, Refusal>
         ensures { told_of result ≡ part_get_told kind1 self.entry.part.now self.entry.length i }
     {
         part_get(self.part, self.length, i)
     }
 
     // count(v, i): how many of the first i bits equal v.
-    pub fn rank(self, v: u64, i: usize) -> Answer
+    pub fn rank(self, v: u64, i: usize) -> Result<u64, Refusal>
         ensures { PartRanked kind1 self.entry.part.now self.entry.length v i (told_of result) }
     {
         part_rank(self.part, self.length, v, i)
     }
 
     // find(v, k): the position that holds v and has k of v before it.
-    pub fn select(self, v: u64, k: usize) -> Answer
+    pub fn select(self, v: u64, k: usize) -> Result<u64, Refusal>
         ensures { PartSelected kind1 self.entry.part.now self.entry.length v k (told_of result) }
     {
         part_select(self.part, self.length, v, k)

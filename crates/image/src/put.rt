@@ -16,33 +16,24 @@ pub fn put_le(s: &mut [u8], at: usize, n: usize, v: u64)
     ensures { s.new ≡ sets s.old at (le n v) }
 {
     let mut rest = v;
-    for i in 0..n {
-        s[at + i] = low_byte(rest);
-        rest = rest / 256;
+    for byte in &mut s[at..at + n] {
+        *byte = low_byte(rest);
+        rest /= 256;
     }
 }
 
-// Stores the eight bytes of a word from byte `at` on: eight stores with no loop, which the compiler makes one.
+// Stores the eight bytes of a word from byte `at` on, which the compiler makes one store.
 pub fn put_word(s: &mut [u8], at: usize, v: u64)
     requires { at + 8 ≤ length s.old }
     ensures { s.new ≡ sets s.old at (le 8 v) }
 {
-    s[at] = low_byte(v);
-    s[at + 1] = low_byte(v >> 8);
-    s[at + 2] = low_byte(v >> 16);
-    s[at + 3] = low_byte(v >> 24);
-    s[at + 4] = low_byte(v >> 32);
-    s[at + 5] = low_byte(v >> 40);
-    s[at + 6] = low_byte(v >> 48);
-    s[at + 7] = low_byte(v >> 56);
+    s[at..at + 8].copy_from_slice(&v.to_le_bytes());
 }
 
-// Stores the n bytes b from byte `at` on.
-pub fn put_bytes(s: &mut [u8], at: usize, b: &[u8], n: usize)
-    requires { (length b.now ≡ n) × (at + n ≤ length s.old) }
+// Stores the bytes b from byte `at` on.
+pub fn put_bytes(s: &mut [u8], at: usize, b: &[u8])
+    requires { at + length b.now ≤ length s.old }
     ensures { s.new ≡ sets s.old at b.now }
 {
-    for i in 0..n {
-        s[at + i] = b[i];
-    }
+    s[at..at + b.len()].copy_from_slice(b);
 }

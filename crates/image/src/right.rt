@@ -1,41 +1,22 @@
 // Whether a row is right: its padding, its entries and its ones. Each byte of its bits is counted once.
 ghost use Rattle.std.specs.Prelude.{◌≡◌, true, ◌+◌, ◌≤◌, length, eqb};
-ghost use Rattle.counters.specs.Working.{Decides};
 ghost use Rattle.image.specs.Bytes.{num, bit_from};
 ghost use Rattle.image.specs.Kinds.{kind1};
 ghost use Rattle.image.specs.Entry.{EntryFits, entry_from};
-ghost use Rattle.image.specs.Layout.{superblock_bytes, most_row, size_of};
+ghost use Rattle.image.specs.Layout.{superblock_bytes};
 ghost use Rattle.image.specs.Rows.{right_part};
 ghost use Rattle.image.specs.Calls.{good_part};
 ghost use Rattle.image.specs.Writing.{BlockCounts};
-ghost use Rattle.image.specs.Reading.{PaddingZero};
 
 use super::bytes::u64_at;
 use super::fields::ones_at;
 use super::layout::{
-    BLOCK_BYTES, ENTRY_BYTES, HEAD_BYTES, LAST_BLOCK, SUPERBLOCK_BITS, SUPERBLOCK_BLOCKS,
-    SUPERBLOCK_BYTES, bits_start, superblocks_of,
+    BLOCK_BYTES, ENTRY_BYTES, HEAD_BYTES, LAST_BLOCK, SUPERBLOCK_BLOCKS, SUPERBLOCK_BYTES,
+    bits_start, superblocks_of,
 };
-use super::reading::block_at;
+use super::reading::{Record, block_at};
 use super::write::entry_halves;
 use words::block_ones;
-
-// Whether a row's bits from position n on are zero, to the end of its last superblock: a word at a time, the first without its bits before n.
-fn padding_zero(part: &[u8], n: usize) -> bool
-    requires { (length part.now ≡ size_of kind1 n) × (n ≤ most_row) }
-    ensures { Decides result (PaddingZero kind1 part.now n) }
-{
-    let start = bits_start(n);
-    let end = SUPERBLOCK_BITS * superblocks_of(n);
-    let mut p = n;
-    while p < end {
-        if u64_at(part, start + 8 * (p / 64)) >> (p % 64) != 0 {
-            return false;
-        }
-        p = 64 * (p / 64 + 1);
-    }
-    true
-}
 
 // The ones up to the end of each of the blocks of the superblock from byte `at` on.
 fn block_counts(part: &[u8], at: usize) -> [usize; SUPERBLOCK_BLOCKS]
@@ -46,7 +27,7 @@ fn block_counts(part: &[u8], at: usize) -> [usize; SUPERBLOCK_BLOCKS]
     let mut sum: usize = 0;
     for j in 0..SUPERBLOCK_BLOCKS {
         let block = block_at(part, at + BLOCK_BYTES * j);
-        sum += block_ones(&block[..]);
+        sum += block_ones(&block);
         counts[j] = sum;
     }
     counts
@@ -69,7 +50,7 @@ pub fn part_right(part: &[u8], n: usize) -> bool
     requires { good_part kind1 part.now n ≡ true }
     ensures { result ≡ right_part kind1 part.now n }
 {
-    if !padding_zero(part, n) {
+    if !Record::new(part, n).padding_zero() {
         return false;
     }
     let start = bits_start(n);

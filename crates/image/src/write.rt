@@ -7,15 +7,15 @@ ghost use Rattle.words.specs.Strip.{cell, strip_of};
 ghost use Rattle.image.specs.Kinds.{kind1};
 ghost use Rattle.image.specs.Entry.{EntryFits, entry_from, HalvesOf};
 ghost use Rattle.image.specs.Layout.{superblock_bytes, block_bytes, most_bytes, most_row, superblocks_of, entries_bytes, record_of, size_of};
-ghost use Rattle.image.specs.Writing.{superblock_cells, word_cells, TargetFits};
+ghost use Rattle.image.specs.Writing.{superblock_cells, block_cells, TargetFits};
 ghost use Rattle.image.specs.Writing.{BitsPut, CountedPut, SuperblockPut, RowPut};
 
 use super::layout::{
     BLOCK_BYTES, ENTRY_BYTES, HEAD_BYTES, LABEL_OFFSET, LAST_BLOCK, LENGTH_OFFSET, ONES_OFFSET,
-    SUPERBLOCK_BLOCKS, SUPERBLOCK_BYTES, SUPERBLOCK_WORDS, bits_start, superblocks_of,
+    SUPERBLOCK_BLOCKS, SUPERBLOCK_BYTES, bits_start, superblocks_of,
 };
 use super::put::{put_le, put_word};
-use words::{BLOCK_BITS, low_mask, ones_of};
+use words::{BLOCK_BITS, block_at, low_mask, ones_of};
 
 // Word w of the first n bits of the words, zero past them.
 fn strip_word(words: &[u64], w: usize, n: usize) -> u64
@@ -32,21 +32,21 @@ fn strip_word(words: &[u64], w: usize, n: usize) -> u64
     words[w]
 }
 
-// The eight words from word w on.
-fn block_words(words: &[u64], w: usize) -> [u64; 8]
-    requires { w + 8 ≤ length words.now }
-    ensures { (length result ≡ 8) × ((j : ℕ) → j < 8 → get_or result j 0 ≡ get_or words.now (w + j) 0) }
+// Block b of the first n bits of the words, zero past them, word by word.
+fn cut_block(words: &[u64], b: usize, n: usize) -> [u64; 8]
+    requires { (n ≤ 64 * length words.now) × (block_bits * b + block_bits ≤ most_row) }
+    ensures { (p : ℕ) → p < block_bits → bit_at result p ≡ block_cells (strip_of words.now n) b p }
 {
     let mut block = [0u64; 8];
     for j in 0..8 {
-        block[j] = words[w + j];
+        block[j] = strip_word(words, 8 * b + j, n);
     }
     block
 }
 
 // Stores a block of eight words from byte `at` on. Answers its ones. The words come by value: no store lies between their reads.
 fn put_block(bytes: &mut [u8], at: usize, block: [u64; 8]) -> usize
-    requires { (at + block_bytes ≤ length bytes.old) × (length block ≡ 8) }
+    requires { at + block_bytes ≤ length bytes.old }
     ensures { BitsPut (bit_at block) block_bytes at bytes.old bytes.new result }
 {
     let mut sum: usize = 0;
@@ -63,38 +63,22 @@ fn put_zero_block(bytes: &mut [u8], at: usize)
     requires { at + block_bytes ≤ length bytes.old }
     ensures { BitsPut (λ p. 0) block_bytes at bytes.old bytes.new 0 }
 {
-    for j in 0..8 {
-        put_word(bytes, at + 8 * j, 0);
-    }
+    bytes[at..at + BLOCK_BYTES].fill(0);
 }
 
-// Stores the block from word w on of the first n bits of the words, zero past them, from byte `at` on. Answers its ones.
-fn put_cut_block(bytes: &mut [u8], at: usize, words: &[u64], w: usize, n: usize) -> usize
-    requires { (at + block_bytes ≤ length bytes.old) × (n ≤ 64 * length words.now) × (64 * w + block_bits ≤ most_row) }
-    ensures { BitsPut (word_cells (strip_of words.now n) w) block_bytes at bytes.old bytes.new result }
+// Stores block b of the first n bits of the words, zero past them, from byte `at` on. Answers its ones. Only a block in which the bits end is cut word by word.
+fn put_strip_block(bytes: &mut [u8], at: usize, words: &[u64], b: usize, n: usize) -> usize
+    requires { (at + block_bytes ≤ length bytes.old) × (n ≤ 64 * length words.now) × (block_bits * b + block_bits ≤ most_row) }
+    ensures { BitsPut (block_cells (strip_of words.now n) b) block_bytes at bytes.old bytes.new result }
 {
-    let mut sum: usize = 0;
-    for j in 0..8 {
-        let x = strip_word(words, w + j, n);
-        put_word(bytes, at + 8 * j, x);
-        sum += ones_of(x);
+    if BLOCK_BITS * b + BLOCK_BITS <= n {
+        return put_block(bytes, at, *block_at(words, b));
     }
-    sum
-}
-
-// The same. Only a block in which the bits end goes word by word.
-fn put_strip_block(bytes: &mut [u8], at: usize, words: &[u64], w: usize, n: usize) -> usize
-    requires { (at + block_bytes ≤ length bytes.old) × (n ≤ 64 * length words.now) × (64 * w + block_bits ≤ most_row) }
-    ensures { BitsPut (word_cells (strip_of words.now n) w) block_bytes at bytes.old bytes.new result }
-{
-    if 64 * w + BLOCK_BITS <= n {
-        return put_block(bytes, at, block_words(words, w));
-    }
-    if n <= 64 * w {
+    if n <= BLOCK_BITS * b {
         put_zero_block(bytes, at);
         return 0;
     }
-    put_cut_block(bytes, at, words, w, n)
+    put_block(bytes, at, cut_block(words, b, n))
 }
 
 // Stores the bits of superblock e of the first n bits of the words, from byte `at` on. Answers the ones up to the end of each of its blocks.
@@ -111,15 +95,15 @@ fn put_superblock(
     let mut counts = [0usize; SUPERBLOCK_BLOCKS];
     let mut sum: usize = 0;
     for j in 0..SUPERBLOCK_BLOCKS {
-        let w = SUPERBLOCK_WORDS * e + 8 * j;
-        sum += put_strip_block(bytes, at + BLOCK_BYTES * j, words, w, n);
+        let b = SUPERBLOCK_BLOCKS * e + j;
+        sum += put_strip_block(bytes, at + BLOCK_BYTES * j, words, b, n);
         counts[j] = sum;
     }
     counts
 }
 
 // An entry as two words, the low one first.
-#[derive(Clone, Copy)]
+#[derive(Clone, Copy, Debug, PartialEq, Eq, Hash)]
 pub struct Halves {
     pub low: u64,
     pub high: u64,
@@ -145,7 +129,7 @@ pub fn entry_halves(before: usize, counts: [usize; SUPERBLOCK_BLOCKS]) -> Halves
 }
 
 // Where a superblock goes: its entry from byte `entry` on, its bits from byte `bits` on. `before` ones lie before it.
-#[derive(Clone, Copy)]
+#[derive(Clone, Copy, Debug, PartialEq, Eq, Hash)]
 pub struct Target {
     pub entry: usize,
     pub bits: usize,

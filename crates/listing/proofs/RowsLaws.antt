@@ -12,7 +12,7 @@ use Rattle.image.specs.Chain.{kind_of, next_at, label_at, length_at, ones_at}
 use Rattle.image.specs.Rows.{part_at, row_bits, RightAt, Obeys}
 use Rattle.image.specs.Calls.{records_in, records_of}
 use Rattle.image.proofs.ChainLaws.{RecordFacts, chain_facts, chain_few}
-use Rattle.image.proofs.WalkLaws.{SoundWalk, Turn, walk_none, walk_turn, walk_done}
+use Rattle.image.proofs.WalkLaws.{SoundWalk, Turn, walk_none, walk_turn}
 use Rattle.image.proofs.InspectLaws.{obeys_chain}
 use Rattle.image.proofs.NumberLaws.{num_taken}
 use Rattle.image.proofs.PartLaws.{row_length_lem}
@@ -100,14 +100,10 @@ module _ {s out₀ out : List ℕ} {at end : ℕ} (w : RowsPut s out₀ out at e
       omega (arith, w.put.end, rows_first s at turn.rest, rows_most s o)
 
   -- and with its line the walk goes on
-  pub rows_more : (next : ℕ) (out₁ : List ℕ) (end₁ : ℕ) → next ≡ unit_bytes * next_at s at → Put out end (row_line s at) out₁ end₁ → RowsPut s out₀ out₁ next end₁
-  rows_more next out₁ end₁ e q =
+  pub rows_more : (out₁ : List ℕ) (end₁ : ℕ) → Put out end (row_line s at) out₁ end₁ → RowsPut s out₀ out₁ (unit_bytes * next_at s at) end₁
+  rows_more out₁ end₁ q =
       record {
         past = w.past ++ (at ∷ []);
-        walk = rw e turn.more;
+        walk = turn.more;
         put = put_as _ (sym (rows_append s w.past (at ∷ []) ∙ ap (λ (l : List ℕ). rows_text s w.past ++ l) (rows_one s at))) (put_more w.put q);
       }
-
--- where it ends
-pub rows_done : {s out₀ out : List ℕ} {at end : ℕ} → RowsPut s out₀ out at end → at ≡ 0 → Put out₀ 0 (rows_text s (records_of s)) out end
-rows_done {s} w z = put_as _ (ap (rows_text s) (walk_done w.walk z)) w.put

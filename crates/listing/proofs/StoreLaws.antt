@@ -20,10 +20,6 @@ put_more {s} {a} {xs} {t} {b} {ys} {u} {c} p q =
       end = omega (arith, p.end, q.end, length-append xs ys);
     }
 
--- bytes stored from byte 0 on
-pub put_all : {s t : List ℕ} (xs : List ℕ) → t ≡ sets s 0 xs → Put s 0 xs t (length xs)
-put_all xs e = record { same = e; end = omega arith }
-
 -- one byte more
 pub put_byte : {s : List ℕ} {a : ℕ} {xs t : List ℕ} {b : ℕ} (x : ℕ) → Put s a xs t b → Put s a (xs ++ (x ∷ [])) (set t b x) (b + 1)
 put_byte x p = put_more p (record { same = refl; end = omega arith })

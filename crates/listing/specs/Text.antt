@@ -1,13 +1,12 @@
 -- The text that lists an image's rows, in bytes of ASCII. Assumes nothing.
-use Rattle.std.specs.Prelude.{ℕ, zero, suc, ◌+◌, ◌*◌, ◌/◌, ◌%◌, true, false, cond, List, [], ◌∷◌, ◌++◌, length, ltb}
+use Rattle.std.specs.Prelude.{ℕ, zero, suc, ◌+◌, ◌*◌, ◌/◌, ◌%◌, true, false, cond, List, [], ◌∷◌, ◌++◌, length, ltb, Some, None}
+use Rattle.std.specs.Prelude as rust
 use Rattle.std.proofs.Math.Option.{Option, some, none}
 use Rattle.std.proofs.lemmas.List.Edits.{sets}
 use Rattle.words.specs.Refusals.{Told, value, refused}
 use Rattle.image.specs.Layout.{most_label}
 use Rattle.image.specs.Chain.{label_at, length_at, ones_at}
 use Rattle.image.specs.Calls.{records_of, inspect_told}
-use Rattle.listing.specs.declared.rows.Listed.{Listed}
-use Rattle.listing.specs.declared.rows.Listed.TheVariants.{Short, Written}
 
 -- the last digits of n in decimal, at most `steps` of them
 unfoldable pub digits_in : ℕ → ℕ → List ℕ
@@ -70,9 +69,9 @@ abbrev pub text_bytes : ℕ
 text_bytes = most_label * line_bytes
 
 -- how many bytes were written; none where the buffer is shorter than that
-abbrev pub written_of : Listed → Option ℕ
-written_of Short = none
-written_of (Written n) = some n
+abbrev pub written_of : rust.Option ℕ → Option ℕ
+written_of None = none
+written_of (Some n) = some n
 
 -- with the buffer as the call leaves it
 pub record ListingOutcome : Type 0 where

@@ -5,4 +5,4 @@ mod number;
 mod rows;
 
 // Open to users: no `requires`, and a promise for every input.
-pub use rows::{Listed, MOST_LISTED, TEXT_BYTES, write_rows};
+pub use rows::{MOST_LISTED, TEXT_BYTES, write_rows};

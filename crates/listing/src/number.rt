@@ -12,6 +12,7 @@ fn digit(d: u64) -> u8
 }
 
 // v in decimal from byte `at` on; answers where it ends.
+// Kept: std prints a number into a Formatter alone; the toolchain's crate for it, itoa, would be one more to trust.
 fn put_decimal(out: &mut [u8], at: usize, v: u64) -> usize
     requires { at + length (decimal v) ≤ length out.old }
     ensures { Put out.old at (decimal v) out.new result }

@@ -11,7 +11,7 @@ use super::number::put_ended;
 use image::{
     MOST_LABEL, first_record, inspect, label_at, length_at, next_record, ones_at, put_bytes,
 };
-use words::{Answer, Refusal, number};
+use words::Refusal;
 
 // The longest image that is listed, in bytes.
 pub const MOST_LISTED: usize = 65536;
@@ -19,13 +19,6 @@ pub const MOST_LISTED: usize = 65536;
 pub const LINE_BYTES: usize = 23;
 // Room for any text.
 pub const TEXT_BYTES: usize = MOST_LABEL * LINE_BYTES;
-
-// What was written: so many bytes, or nothing into a buffer too short for the longest text.
-#[derive(Clone, Copy)]
-pub enum Listed {
-    Short,
-    Written(usize),
-}
 
 // The line of the record at byte `at` of the image, from byte `end` of `out` on; answers where it ends.
 fn put_line(image: &[u8], at: usize, out: &mut [u8], end: usize) -> usize
@@ -42,11 +35,11 @@ fn put_rows(image: &[u8], out: &mut [u8]) -> usize
     requires { Obeys image.now × (text_bytes ≤ length out.old) }
     ensures { Put out.old 0 (rows_text image.now (records_of image.now)) out.new result }
 {
-    let mut at = first_record(image);
+    let mut next = first_record(image);
     let mut end: usize = 0;
-    while at != 0 {
+    while let Some(at) = next {
         end = put_line(image, at, out, end);
-        at = next_record(image, at);
+        next = next_record(image, at);
     }
     end
 }
@@ -57,8 +50,8 @@ fn put_refused(out: &mut [u8], r: Refusal) -> usize
     ensures { Put out.old 0 (refused_line (number_of r)) out.new result }
 {
     let word = b"refused ";
-    put_bytes(out, 0, word, word.len());
-    put_ended(out, word.len(), number(r), b'\n')
+    put_bytes(out, 0, word);
+    put_ended(out, word.len(), u64::from(r), b'\n')
 }
 
 // `too long`.
@@ -67,7 +60,7 @@ fn put_too_long(out: &mut [u8]) -> usize
     ensures { Put out.old 0 too_long_line out.new result }
 {
     let line = b"too long\n";
-    put_bytes(out, 0, line, line.len());
+    put_bytes(out, 0, line);
     line.len()
 }
 
@@ -80,17 +73,17 @@ fn put_text(image: &[u8], out: &mut [u8]) -> usize
         return put_too_long(out);
     }
     match inspect(image) {
-        Answer::Refused(r) => put_refused(out, r),
-        Answer::Value(rows) => put_rows(image, out),
+        Ok(_) => put_rows(image, out),
+        Err(r) => put_refused(out, r),
     }
 }
 
-// The text of the image into a lent buffer, of which every other byte stays.
-pub fn write_rows(image: &[u8], out: &mut [u8]) -> Listed
+// The text of the image into a lent buffer, of which every other byte stays: so many bytes, or none where the buffer is too short for the longest text.
+pub fn write_rows(image: &[u8], out: &mut [u8]) -> Option<usize>
     ensures { outcome (written_of result) out.new ≡ listing_outcome image.now out.old }
 {
     if out.len() < TEXT_BYTES {
-        return Listed::Short;
+        return None;
     }
-    Listed::Written(put_text(image, out))
+    Some(put_text(image, out))
 }

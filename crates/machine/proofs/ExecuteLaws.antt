@@ -7,13 +7,14 @@ use Prim.Native.Nat.{ℕ, ◌≤◌, ◌<◌}
 use native.Mathlib.Omega.{arith}
 use lib.Dec.{eqb}
 use lib.ListN.{length, set, take, drop}
+use lib.Seq.{sets}
 use borrow.Author.Tests.{lt-ltb, le-ltb}
 use Rattle.words.specs.Refusals.{number_of, Told, judge, unless, verdict_of}
-use Rattle.words.specs.Handles.{handle_of}
+use Rattle.words.specs.Handles.{handle, handle_of}
 use Rattle.words.specs.declared.handle.Handle.{Handle}
 use Rattle.words.specs.declared.refusal.Refusal.{Refusal}
-use Rattle.words.specs.declared.refusal.Verdict.{Verdict}
-use Rattle.words.specs.declared.refusal.Verdict.TheVariants.{Pass, Refuse}
+use Rattle.std.specs.Prelude.{Result, Ok, Err}
+use Rattle.words.proofs.StripLaws.{handle_none}
 use Rattle.words.proofs.CheckLaws.{not_both, passed_both}
 use Rattle.counters.specs.Promises.{CreatedTold, outcome, Outcome}
 use Rattle.counters.specs.Calls.{checks, create_outcome}
@@ -28,14 +29,20 @@ use Rattle.machine.proofs.StateLaws.{Good, opened_good, created_is, cleared_is}
 use Rattle.machine.proofs.ListLaws.{every_list, every_turn}
 
 -- ---- the opening's table
+-- what lay says, by what is said of its handle
+pub create_says : (c words counters : ℕ) (h : Handle) (o : Option ℕ) → h ≡ handle c 0 0 → o ≡ judge (checks h words counters)
+    → o ≡ judge (checks (handle_of c []) words counters)
+create_says c words counters h o d e = e ∙ ap (λ (g : Handle). judge (checks g words counters)) (d ∙ handle_none c)
+
 -- it passes where both calls' tables do
 both : (c : ℕ) (b : Bool) (words counters bytes : ℕ) → judge (opening_table c b words counters bytes) ≡ none
     → (judge (checks (handle_of c []) words counters) ≡ none) × (judge (clear_table bytes) ≡ none)
 both c true words counters bytes p = let w = passed_both (clear_table bytes) (checks (handle_of c []) words counters) p in (w.1, w.0)
 both c false words counters bytes p = passed_both (checks (handle_of c []) words counters) (clear_table bytes) p
 
--- so where the verdict on it is to pass
-pub passed : (c order : ℕ) (ws cs im : List ℕ) (v : Verdict) → verdict_of v ≡ opening_of c order ws cs im → v ≡ Pass → opening_of c order ws cs im ≡ none
+-- so where the check of it is passed
+pub passed : (c order : ℕ) (ws cs im : List ℕ) (v : Result Unit Refusal) → verdict_of v ≡ opening_of c order ws cs im → v ≡ Ok tt
+    → opening_of c order ws cs im ≡ none
 passed c order ws cs im v e d = sym e ∙ ap verdict_of d
 
 module _ (c order : ℕ) (ws cs im : List ℕ) (p : opening_of c order ws cs im ≡ none) where
@@ -61,8 +68,7 @@ module _ (c order : ℕ) (ws cs im : List ℕ) (p : opening_of c order ws cs im 
 
 -- ---- the three ends of `execute`
 -- the header over the first four answers
-header : (l rest : List ℕ) (a b d e : ℕ) → head_answers ≤ length l
-    → set (set (set (set (take head_answers l ++ rest) 0 a) 1 b) 2 d) 3 e ≡ a ∷ b ∷ d ∷ e ∷ rest
+header : (l rest : List ℕ) (a b d e : ℕ) → head_answers ≤ length l → sets (take head_answers l ++ rest) 0 (a ∷ b ∷ d ∷ e ∷ []) ≡ a ∷ b ∷ d ∷ e ∷ rest
 header [] rest a b d e h = absurd (omega arith)
 header (x ∷ []) rest a b d e h = absurd (omega arith)
 header (x ∷ y ∷ []) rest a b d e h = absurd (omega arith)
@@ -89,7 +95,7 @@ module _ (script : List ℕ) (c order : ℕ) (ws cs im ans : List ℕ) where
   executed_short h = record { whole = simp (lt-ltb (length ans) (answers_for n) h); ran = (λ l p. absurd (omega arith)) }
 
   -- the opening refused
-  pub executed_refused : (v : Verdict) (r : Refusal) → answers_for n ≤ length ans → verdict_of v ≡ opening_of c order ws cs im → v ≡ Refuse r
+  pub executed_refused : (v : Result Unit Refusal) (r : Refusal) → answers_for n ≤ length ans → verdict_of v ≡ opening_of c order ws cs im → v ≡ Err r
       → Executed script c order ws cs im ans (ended 0 ws cs im (set ans 0 (number_of r)))
   unfolding executed
   executed_refused v r l e d =
@@ -98,7 +104,7 @@ module _ (script : List ℕ) (c order : ℕ) (ws cs im ans : List ℕ) where
 
   -- the calls run
   pub executed_ran : (x z : UnitState) (mid ans' : List ℕ) → answers_for n ≤ length ans → opening_of c order ws cs im ≡ none → x ≡ afresh s
-      → Looped script x ans z mid → ans' ≡ set (set (set (set mid 0 0) 1 z.strip.handle.capacity) 2 z.strip.handle.length) 3 z.strip.handle.total
+      → Looped script x ans z mid → ans' ≡ sets mid 0 (0 ∷ z.strip.handle.capacity ∷ z.strip.handle.length ∷ z.strip.handle.total ∷ [])
       → Executed script c order ws cs im ans (ended n z.strip.words z.strip.counters z.image ans')
   unfolding executed
   executed_ran x z mid ans' l p opened looped put =
@@ -109,7 +115,7 @@ module _ (script : List ℕ) (c order : ℕ) (ws cs im ans : List ℕ) where
       let same = (every_list t s g refl).same in
       let ended_so : ended n z.strip.words z.strip.counters z.image ans' ≡ ran_to n z looped.out ans =
       ap (λ (q : List ℕ). ended n z.strip.words z.strip.counters z.image q)
-      (put ∙ ap (λ (q : List ℕ). set (set (set (set q 0 0) 1 h.capacity) 2 h.length) 3 h.total) looped.told
+      (put ∙ ap (λ (q : List ℕ). sets q 0 (0 ∷ h.capacity ∷ h.length ∷ h.total ∷ [])) looped.told
       ∙ header ans rest 0 h.capacity h.length h.total (omega arith)) in
       record {
         whole = simp (le-ltb (length ans) (answers_for n) l)

@@ -5,9 +5,7 @@ pub mod TurnLaws
 pub mod ListLaws
 pub mod DemandLaws
 pub mod ScriptLaws
-pub mod ArmLaws
 pub mod LoopLaws
-pub mod OpeningLaws
 pub mod ExecuteLaws
 pub mod AllowedLaws
 pub mod AcceptedLaws

@@ -1,14 +1,15 @@
 -- The unit: what is held between calls, a machine's state as it is held there, and what each call's own promise says of it. Assumes nothing.
-use Rattle.std.specs.Prelude.{ℕ, ◌≡◌, List}
+use Rattle.std.specs.Prelude.{ℕ, ◌≡◌, List, Result}
 use Rattle.words.specs.Refusals.{Told}
 use Rattle.words.specs.Calls.{get_told, successor_told, predecessor_told}
 use Rattle.words.specs.declared.handle.Handle.{Handle}
+use Rattle.words.specs.declared.refusal.Refusal.{Refusal}
 use Rattle.counters.specs.Record.{StripRecord, built_record}
-use Rattle.counters.specs.Promises.{CreatedTold, created, uncreated, ChangedTold, done, kept, Outcome}
+use Rattle.counters.specs.declared.answer.Change.{Change}
+use Rattle.counters.specs.Promises.{CreatedTold, created, uncreated, ChangedTold, done, kept, changed_of, Outcome}
 use Rattle.counters.specs.Calls.{create_outcome, Pushed, Flipped, fill_outcome, truncate_outcome, Ranked, Selected, verify_told}
 use Rattle.image.specs.Shelf.{written}
 use Rattle.image.specs.Calls.{ImageOutcome, clear_outcome, freeze_outcome, inspect_told, row_get_told, RowRanked, RowSelected}
-use Rattle.machine.specs.declared.dispatch.Reply.{Reply}
 use Rattle.machine.specs.Machine.{StripState, ShelfState, State, shelf_kind, StripCall, create, push, flip, fill, truncate, get, rank, select, successor, predecessor, verify, ShelfCall, clear, freeze, inspect, row_rank, row_select, row_get, Call, on_strip, on_shelf, Step, accepted, refuses, tells, through}
 
 -- the handle in use with the lent words and counters, and the lent image
@@ -92,10 +93,10 @@ abbrev pub Acted : Call → UnitState → Step UnitState → Type 0
 Acted (on_strip k) x y = StripActed k x.strip (through (λ u. u.strip) y) × (y.next.image ≡ x.image)
 Acted (on_shelf k) x y = ShelfActed k x.strip x.image (through (λ u. u.image) y) × (y.next.strip ≡ x.strip)
 
--- the answer of a call of a script
-abbrev pub reply_step : Reply → Step Handle
-reply_step t = record { next = t.handle; refusal = t.refusal; first = t.first; second = t.second }
+-- the answer of a call of a script, from handle h
+abbrev pub reply_step : Handle → Result Change Refusal → Step Handle
+reply_step h r = changed_step (changed_of h r)
 
 -- with the buffers as it leaves them
-abbrev pub unit_step : Reply → List ℕ → List ℕ → List ℕ → Step UnitState
-unit_step t ws cs im = through (λ h. unit_state (strip_record h ws cs) im) (reply_step t)
+abbrev pub unit_step : Handle → Result Change Refusal → List ℕ → List ℕ → List ℕ → Step UnitState
+unit_step h r ws cs im = through (λ g. unit_state (strip_record g ws cs) im) (reply_step h r)

@@ -1,85 +1,38 @@
 // One call of a script.
 ghost use Rattle.std.specs.Prelude.{◌≡◌};
 ghost use Rattle.words.specs.Refusals.{told_of};
-ghost use Rattle.counters.specs.Promises.{created_of, changed_of};
+ghost use Rattle.counters.specs.Promises.{created_of};
 ghost use Rattle.machine.specs.Scripts.{called};
 ghost use Rattle.machine.specs.Machine.{tells};
-ghost use Rattle.machine.specs.Unit.{strip_record, unit_state, created_step, changed_step, reply_step, unit_step, Acted};
+ghost use Rattle.machine.specs.Unit.{strip_record, unit_state, created_step, reply_step, unit_step, Acted};
 
-use counters::{Changed, Created, create, fill, flip, push, rank, select, truncate, verify};
+use counters::{Change, Laid, Record, create, fill, flip, push, truncate};
 use image::{clear, freeze, inspect, row_get, row_rank, row_select};
-use words::{Answer, Handle, get, number, predecessor, successor};
+use words::{Handle, Refusal, Strip};
 
-// A call's answer in numbers: refusal or 0, and two values; with the handle in use after it.
-#[derive(Clone, Copy)]
-pub struct Reply {
-    pub handle: Handle,
-    pub refusal: u64,
-    pub first: u64,
-    pub second: u64,
-}
-
-// What lay answers. A refused one leaves the handle in use.
-fn created(h: Handle, r: Created) -> Reply
-    ensures { reply_step result ≡ created_step h (created_of r) }
+// What lay answers, as a change does.
+fn laid(r: Result<Laid, Refusal>) -> Result<Change, Refusal>
+    ensures { (h : Handle) → reply_step h result ≡ created_step h (created_of r) }
 {
-    match r {
-        Created::Done(given, x) => Reply {
-            handle: given,
-            refusal: 0,
-            first: x,
-            second: 0,
-        },
-        Created::Refused(n) => Reply {
-            handle: h,
-            refusal: number(n),
-            first: 0,
-            second: 0,
-        },
-    }
+    r.map(|l| Change {
+        handle: l.handle,
+        first: l.counters,
+        second: 0,
+    })
 }
 
-// What a change answers.
-fn changed(r: Changed) -> Reply
-    ensures { reply_step result ≡ changed_step (changed_of r) }
+// What a call answers that changes no strip: handle h stays in use.
+fn told(h: Handle, r: Result<u64, Refusal>) -> Result<Change, Refusal>
+    ensures { reply_step h result ≡ tells h (told_of r) }
 {
-    match r {
-        Changed::Done(g, x, y) => Reply {
-            handle: g,
-            refusal: 0,
-            first: x,
-            second: y,
-        },
-        Changed::Refused(g, n) => Reply {
-            handle: g,
-            refusal: number(n),
-            first: 0,
-            second: 0,
-        },
-    }
+    r.map(|x| Change {
+        handle: h,
+        first: x,
+        second: 0,
+    })
 }
 
-// What a call answers that changes no strip.
-fn told(h: Handle, r: Answer) -> Reply
-    ensures { reply_step result ≡ tells h (told_of r) }
-{
-    match r {
-        Answer::Value(x) => Reply {
-            handle: h,
-            refusal: 0,
-            first: x,
-            second: 0,
-        },
-        Answer::Refused(n) => Reply {
-            handle: h,
-            refusal: number(n),
-            first: 0,
-            second: 0,
-        },
-    }
-}
-
-// The call of opcode `op` modulo 17 with the arguments x, y, z, on handle h and any buffers.
+// The call of opcode `op` modulo 17 with the arguments x, y, z, on handle h and any buffers. Where it is refused h stays in use.
 pub fn step(
     op: u64,
     x: u64,
@@ -89,25 +42,25 @@ pub fn step(
     words: &mut [u64],
     counters: &mut [u32],
     image: &mut [u8],
-) -> Reply
+) -> Result<Change, Refusal>
     ensures { Acted (called op x y z) (unit_state (strip_record h words.old counters.old) image.old)
-        (unit_step result words.new counters.new image.new) }
+        (unit_step h result words.new counters.new image.new) }
 {
-    let code = op % 17;
-    match code {
-        0 => created(h, create(x as usize, words, counters)),
-        1 => changed(push(h, words, counters, x)),
-        2 => changed(flip(h, words, counters, x as usize)),
-        3 => changed(fill(h, words, counters, x as usize, y as usize, z)),
-        4 => changed(truncate(h, words, counters, x as usize)),
-        5 => told(h, get(h, words, x as usize)),
-        6 => told(h, rank(h, words, counters, x, y as usize)),
-        7 => told(h, select(h, words, counters, x, y as usize)),
-        8 => told(h, successor(h, words, x, y as usize)),
-        9 => told(h, predecessor(h, words, x, y as usize)),
-        10 => told(h, verify(h, words, counters)),
+    // Kept: the opcode as a number, as C and specs/Scripts `called` have it: an enum between would be a second match over the same 17.
+    match op % 17 {
+        0 => laid(create(x as usize, words, counters)),
+        1 => push(h, words, counters, x),
+        2 => flip(h, words, counters, x as usize),
+        3 => fill(h, words, counters, x as usize, y as usize, z),
+        4 => truncate(h, words, counters, x as usize),
+        5 => told(h, Strip::new(h, words).get(x as usize)),
+        6 => told(h, Record::new(h, words, counters).rank(x, y as usize)),
+        7 => told(h, Record::new(h, words, counters).select(x, y as usize)),
+        8 => told(h, Strip::new(h, words).successor(x, y as usize)),
+        9 => told(h, Strip::new(h, words).predecessor(x, y as usize)),
+        10 => told(h, Record::new(h, words, counters).verify()),
         11 => told(h, clear(image)),
-        12 => told(h, freeze(h, words, image, x as usize)),
+        12 => told(h, freeze(Strip::new(h, words), image, x as usize)),
         13 => told(h, inspect(image)),
         14 => told(h, row_rank(image, x as usize, y, z as usize)),
         15 => told(h, row_select(image, x as usize, y, z as usize)),

@@ -5,5 +5,5 @@ mod dispatch;
 mod runner;
 
 // Open to users: no `requires`, and a promise for every input.
-pub use dispatch::{Reply, step};
+pub use dispatch::step;
 pub use runner::execute;

@@ -13,12 +13,11 @@ use borrow.Author.Tests.{ne_eqb, leb-true, le-leb, lt-leb}
 use Rattle.words.specs.Strip.{cell, or_else}
 use Rattle.words.specs.Words.{place_in}
 use Rattle.words.specs.declared.refusal.Refusal.{Refusal}
-use Rattle.words.specs.declared.refusal.Answer.{Answer}
-use Rattle.words.specs.declared.refusal.Answer.TheVariants.{Refused}
+use Rattle.std.specs.Prelude.{Result, Err, IsErrAnd}
 use Rattle.words.specs.Refusals.{Line, ◌⇒◌, judge, unless, Told, value, refused, told_of, Small}
 use Rattle.words.specs.Calls.{value_line, below_line, within_line, absent_line}
 use Rattle.words.proofs.BoolLaws.{and_first, and_second, not_not}
-use Rattle.words.proofs.CheckLaws.{judge_append, passes, passed_both}
+use Rattle.words.proofs.CheckLaws.{raised, judge_append, passes, passed_both}
 use Rattle.image.specs.Kinds.{Kind}
 use Rattle.image.specs.Layout.{unit_bytes}
 use Rattle.image.specs.Chain.{kind_of, length_at, good_label, good_size, among}
@@ -318,10 +317,11 @@ module _ (first second third : List ℕ) where
   abbrev later : List Line
   later = merge_lines first second (length third)
 
-  -- the first image is refused
-  pub merge_first : (a : Answer) (r : Refusal) → told_of a ≡ inspect_told first → a ≡ Refused r → image_outcome (told_of a) third ≡ merge_outcome first second third
-  merge_first a r e d =
-      ap (λ (t : Told). image_outcome t third) (ap told_of d)
+  -- the first image is refused, which `?` passes on
+  pub merge_first : (a q : Result ℕ Refusal) (r : Refusal) → told_of a ≡ inspect_told first → a ≡ Err r → IsErrAnd q (λ e. e ≡ r)
+      → image_outcome (told_of q) third ≡ merge_outcome first second third
+  merge_first a q r e d h =
+      ap (λ (x : Result ℕ Refusal). image_outcome (told_of x) third) (raised q r h)
       ∙ sym (ap outcome (judge_append (inspect_table first) (inspect_table second ++ later)
       ∙ ap (λ (o : Option ℕ). or_else o (judge (inspect_table second ++ later))) (inspect_refused first a r e d)))
 
@@ -331,10 +331,10 @@ module _ (first second third : List ℕ) where
     past_first = after_lines (inspect_table first) (inspect_table second ++ later) (obeys_passed o)
 
     -- the second is
-    pub merge_second : (a : Answer) (r : Refusal) → told_of a ≡ inspect_told second → a ≡ Refused r
-        → image_outcome (told_of a) third ≡ merge_outcome first second third
-    merge_second a r e d =
-        ap (λ (t : Told). image_outcome t third) (ap told_of d)
+    pub merge_second : (a q : Result ℕ Refusal) (r : Refusal) → told_of a ≡ inspect_told second → a ≡ Err r → IsErrAnd q (λ e. e ≡ r)
+        → image_outcome (told_of q) third ≡ merge_outcome first second third
+    merge_second a q r e d h =
+        ap (λ (x : Result ℕ Refusal). image_outcome (told_of x) third) (raised q r h)
         ∙ sym (ap outcome (past_first ∙ judge_append (inspect_table second) later
         ∙ ap (λ (p : Option ℕ). or_else p (judge later)) (inspect_refused second a r e d)))
 

@@ -7,6 +7,8 @@ use native.Mathlib.Omega.{arith}
 use lib.ListN.{length, take, drop, length-append, length-drop}
 use lib.Seq.{sets, drop_at, take_all}
 use borrow.Author.Tests.{eq-eqb, ne_eqb}
+use Rattle.std.specs.Prelude.{nat_eq}
+use Rattle.std.specs.Cmp.Lexicographic.{pointwise}
 use Rattle.words.specs.Bits.{same}
 use Rattle.words.proofs.SameLaws.{same_eq, same_refl}
 use Rattle.image.specs.Bytes.{le}
@@ -135,19 +137,13 @@ module _ (K : Kind) (F : KindFits K) where
       ∙ sets_front (image_of K rs) s (omega (arith, length_image K F rs))
 
 -- ---- a part from the length on
--- it is cut off the part
-pub rest_taken : (part : List ℕ) (m : ℕ) → length part ≡ m → take (m - 8) (drop 8 part) ≡ drop 8 part
-rest_taken part m e = take_all (m - 8) (drop 8 part) (omega (arith, length-drop 8 part))
+-- cut off the part
+pub rest_taken : (part : List ℕ) → take (length part - 8) (drop 8 part) ≡ drop 8 part
+rest_taken part = take_all (length part - 8) (drop 8 part) (omega (arith, length-drop 8 part))
 
--- and is of whole words
-pub rest_words : (K : Kind) → KindFits K → (part : List ℕ) (m n : ℕ) → length part ≡ m → m ≡ size_of K n
-    → (length (take (m - 8) (drop 8 part)) ≡ 8 * ((m - 8) / 8)) × (8 + 8 * ((m - 8) / 8) ≡ m)
-rest_words K F part m n d e =
-    let w : 8 + 8 * ((m - 8) / 8) ≡ m = go m (size_of K n / unit_bytes) (e ∙ sym (size_units K F n)) (omega (arith, e)) in
-    (ap length (rest_taken part m d) ∙ length-drop 8 part ∙ omega (arith, w), w)
-  where
-    go : (x y : ℕ) → x ≡ unit_bytes * y → 8 ≤ x → 8 + 8 * ((x - 8) / 8) ≡ x
-    go x y d l = omega arith
+-- it is of whole words
+pub rest_words : (K : Kind) → KindFits K → (part : List ℕ) (n : ℕ) → length part ≡ size_of K n → length (drop 8 part) ≡ 8 * (length (drop 8 part) / 8)
+rest_words K F part n e = omega (arith, size_units K F n, length-drop 8 part, e)
 
 -- ---- a row copied
 -- its new next index, its label, and the bytes of its part from the length on
@@ -176,6 +172,14 @@ record_copied K s a f kind part p out out1 out2 out3 at end after next label ea 
     }
 
 -- ---- two right rows
+-- `==` of two lists of bytes
+pub pointwise_same : (xs ys : List ℕ) → pointwise nat_eq xs ys ≡ same xs ys
+unfolding same
+pointwise_same [] [] = refl
+pointwise_same [] (y ∷ ys) = refl
+pointwise_same (x ∷ xs) [] = refl
+pointwise_same (x ∷ xs) (y ∷ ys) = simp (pointwise_same xs ys)
+
 module _ (K : Kind) (s t : List ℕ) (a b : ℕ) (f : RightRecord s a) (g : RightRecord t b) (ks : kind_of s ≡ K) (kt : kind_of t ≡ K) (p q : List ℕ)
     (ep : p ≡ part_at (kind_of s) s a) (eq : q ≡ part_at (kind_of t) t b) where
   -- equal rows have equal bytes from the length on

@@ -3,7 +3,7 @@ use mathlib.Core.Path.{◌≡◌, refl, sym, ap, ap₂, ◌∙◌, subst}
 use mathlib.Core.Bool.{Bool, true, false, cond, not, ◌||◌}
 use mathlib.Core.List.{List, [], ◌∷◌, ◌++◌, append-nil}
 use mathlib.Core.Option.{Option, some, none}
-use Prim.Native.Nat.{ℕ, zero, suc, ◌*◌, ◌<◌}
+use Prim.Native.Nat.{ℕ, zero, suc, ◌*◌, ◌≤◌, ◌<◌}
 use native.Mathlib.Omega.{arith}
 use lib.ListN.{length, get_or, length-append, get_or-append}
 use lib.Seq.{get_or-append_seam}
@@ -140,6 +140,10 @@ pub record RowWalk (s : List ℕ) (at : ℕ) (past : List ℕ) : Type 0 where
 pub row_walk_none : (s : List ℕ) → Obeys s → RowWalk s (unit_bytes * num s 0 4) []
 row_walk_none s o = record { obeys = o; walk = walk_none s (obeys_chain o) }
 
+-- there is a header to read the first index from
+pub obeys_least : {s : List ℕ} → Obeys s → unit_bytes ≤ length s
+obeys_least {s} o = (chain_facts s (records_of s) (obeys_chain o)).header.least
+
 -- where it has not ended
 module _ {s : List ℕ} {at : ℕ} {past : List ℕ} (w : RowWalk s at past) (n : at ≡ 0 → ⊥) where
   abbrev pub turn : Turn s at past
@@ -180,8 +184,8 @@ module _ {s : List ℕ} {at : ℕ} {past : List ℕ} (w : RowWalk s at past) (n 
           (ap (label_at s) here ∙ f.its ∙ sym e ∙ ap (label_at s) (sym there)))
 
   -- a turn
-  pub row_walk_more : (next : ℕ) → next ≡ unit_bytes * next_at s at → RowWalk s next (past ++ (at ∷ []))
-  row_walk_more next e = rw e (record { obeys = w.obeys; walk = turn.more })
+  pub row_walk_more : RowWalk s (unit_bytes * next_at s at) (past ++ (at ∷ []))
+  row_walk_more = record { obeys = w.obeys; walk = turn.more }
 
   -- the rows after those walked
   pub row_walk_rest : rows_of s ≡ rows_from s past ++ (row_at s at ∷ rows_from s turn.rest)
@@ -189,8 +193,8 @@ module _ {s : List ℕ} {at : ℕ} {past : List ℕ} (w : RowWalk s at past) (n 
   row_walk_rest = ap (rows_from s) (sym turn.whole) ∙ from_append s past (at ∷ turn.rest)
 
 -- where it ends it has met all rows
-pub row_walk_done : {s : List ℕ} {at : ℕ} {past : List ℕ} → RowWalk s at past → at ≡ 0 → rows_from s past ≡ rows_of s
-row_walk_done {s} w z = ap (rows_from s) (walk_done w.walk z)
+pub row_walk_done : {s past : List ℕ} → RowWalk s 0 past → rows_from s past ≡ rows_of s
+row_walk_done {s} w = ap (rows_from s) (walk_done w.walk refl)
 
 -- ---- one row, by its place or by its label
 -- that of record i

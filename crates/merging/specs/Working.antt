@@ -1,13 +1,15 @@
--- Derived, for inner contracts: places and marks by label, what is measured, and the records of rows written one after another. Laws in proofs/ tie them to the
+-- Derived, for inner contracts: places by label, what is measured, and the records of rows written one after another. Laws in proofs/ tie them to the
 -- merge. Assumes nothing.
-use Rattle.std.specs.Prelude.{ℕ, ◌+◌, ◌*◌, ◌/◌, ◌≤◌, ◌≡◌, Bool, cond, not, List, [], ◌∷◌, ◌++◌, length, get_or, eqb}
+use Rattle.std.specs.Prelude.{ℕ, ◌+◌, ◌*◌, ◌/◌, ◌≤◌, ◌≡◌, Bool, cond, List, [], ◌∷◌, ◌++◌, length, get_or, false, eqb, is_some, Option, None, Some}
 use Rattle.std.proofs.lemmas.List.Edits.{sets}
 use Rattle.image.specs.Kinds.{Kind}
 use Rattle.image.specs.Layout.{unit_bytes, head_bytes, most_bytes, most_label, size_of, record_of}
 use Rattle.image.specs.Chain.{kind_of, end_at}
-use Rattle.image.specs.Rows.{RightAt}
+use Rattle.image.specs.Rows.{RightAt, Obeys}
 use Rattle.image.specs.Shelf.{Labelled, sizes_of}
-use Rattle.image.specs.Calls.{row_place}
+use Rattle.image.specs.Calls.{record_with}
+use Rattle.image.specs.Walk.{found_at}
+use Rattle.merging.specs.declared.rows.Placed.{Placed}
 use Rattle.merging.specs.Merged.{rows_but}
 
 -- a record that lies inside an image, and whose row is right
@@ -16,21 +18,22 @@ pub record RightRecord (s : List ℕ) (a : ℕ) : Type 0 where
   pub inside : end_at (kind_of s) s a ≤ length s
   pub right : RightAt (kind_of s) s a
 
--- a number for each label, and one for 0; a mark is one that is not 0
-abbrev pub Marks : List ℕ → Type 0
-Marks marks = length marks ≡ most_label + 1
+-- the byte where each label's record starts; a place for each label, and one for 0
+pub record Places (s : List ℕ) (places : List (Option ℕ)) : Type 0 where
+  pub long : length places ≡ most_label + 1
+  pub each : (label : ℕ) → label ≤ most_label → get_or places label None ≡ found_at (record_with s label)
 
--- the byte where each label's record starts, 0 for none
-pub record Places (s places : List ℕ) : Type 0 where
-  pub long : Marks places
-  pub each : (label : ℕ) → label ≤ most_label → get_or places label 0 ≡ row_place s label
+-- an image that obeys the layout, with its places
+abbrev pub IsPlaced : Placed → Type 0
+IsPlaced p = Obeys p.image.now × Places p.image.now p.places.now
 
--- whether a label has a mark
-abbrev pub marked : List ℕ → ℕ → Bool
-marked marks label = not (eqb (get_or marks label 0) 0)
+-- whether a label is marked: it has a place. Without marks none is
+abbrev pub marked : Option (List (Option ℕ)) → ℕ → Bool
+marked None label = false
+marked (Some places) label = is_some (get_or places label None)
 
--- the rows whose label has none
-abbrev pub unmarked : List ℕ → List Labelled → List Labelled
+-- the rows whose label is not
+abbrev pub unmarked : Option (List (Option ℕ)) → List Labelled → List Labelled
 unmarked marks rs = rows_but (marked marks) rs
 
 -- so many rows, 64 at most, and the bytes of their records, with a bound

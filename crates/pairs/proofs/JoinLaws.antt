@@ -2,6 +2,7 @@
 -- Assumes nothing.
 use mathlib.Core.Path.{◌≡◌, refl, sym, ap, ap₂, ◌∙◌}
 use mathlib.Core.List.{List}
+use mathlib.Core.Option.{some, none}
 use Prim.Native.Nat.{ℕ, zero, suc, min, max, ◌+◌, ◌-◌, ◌*◌, ◌/◌, ◌%◌, ◌^◌, ◌≤◌, ◌<◌}
 use native.Mathlib.Nat.{le_refl}
 use native.Mathlib.Omega.{arith}
@@ -14,7 +15,7 @@ use Rattle.words.specs.Words.{place_in, select_in}
 use Rattle.words.proofs.Sums.{length_list_of, get_or_list_of, list_of_is}
 use Rattle.words.proofs.BitLaws.{bit_le, bit_of_and, bit_of_or, bit_of_xor, bit_not}
 use Rattle.words.proofs.WordLaws.{word_bit}
-use Rattle.words.proofs.SearchLaws.{rank_part, rank_ones, part_select}
+use Rattle.words.proofs.SearchLaws.{rank_part, rank_ones, part_select, place_in_below, place_in_past}
 use Rattle.words.proofs.StripLaws.{strip_cell, strip_length, listed_rank, listed_select}
 use Rattle.pairs.specs.Rules.{both, either, only_first, differ, joined}
 use Rattle.pairs.specs.Working.{JoinedWord, joined_bit}
@@ -69,10 +70,11 @@ module _ (r : ℕ → ℕ → ℕ) where
 
     -- the k-th one lies in that word
     pub joined_word_select : (to k left e : ℕ) → j < to → rank_of (joined_bit r ws vs) 1 (64 * j) + left ≡ k → left < ones (bit z) 64 → e ≡ select_in 64 z 1 left
-        → (e < 64) × (64 * j + e ≡ place_in (64 * to) (select_of (joined_bit r ws vs) (64 * to) 1 k))
+        → (e < 64) × (select_of (joined_bit r ws vs) (64 * to) 1 k ≡ some (64 * j + e))
     joined_word_select to k left e l ek few ee =
-        part_select (joined_bit r ws vs) (bit z) (64 * j) 64 (64 * to) 1 k left e joined_word (omega arith) ek
-        (omega (arith, rank_ones (bit z) 64 (bit_le z))) ee
+        let w = part_select (joined_bit r ws vs) (bit z) (64 * j) 64 (64 * to) 1 k left e joined_word (omega arith) ek
+        (omega (arith, rank_ones (bit z) 64 (bit_le z))) ee in
+        (w.0, place_in_below (joined_bit r ws vs) (64 * to) (64 * to) 1 k (64 * j + e) (le_refl (64 * to)) w.1 (omega (arith, w.0)))
 
   -- so a function on words that joins bit by bit joins the strips: words zs, each that has a position below n so joined, hold the joined strip
   pub joined_words : (ws vs zs : List ℕ) (n m : ℕ) → n ≡ m → ((j : ℕ) → 64 * j < n → JoinedWord r (get_or ws j 0) (get_or vs j 0) (get_or zs j 0))
@@ -84,6 +86,20 @@ module _ (r : ℕ → ℕ → ℕ) where
       ∙ ap (joined_bit r ws vs) at
       ∙ sym (get_or_list_of (joined_bit r ws vs) n p l))
       ∙ sym (joined_strip_lem ws vs n m e)
+
+-- ---- what a find among m cells says of one among the first n of them
+module _ (f : ℕ → ℕ) (n m k : ℕ) (h : n ≤ m) where
+  -- a position below n is theirs
+  pub kth_below : (p : ℕ) → select_of f m 1 k ≡ some p → p < n → select_of f n 1 k ≡ some p
+  kth_below p e l = place_in_below f n m 1 k p h (ap (place_in m) (sym e)) l
+
+  -- one past them is not
+  pub kth_past : (p : ℕ) → select_of f m 1 k ≡ some p → n ≤ p → select_of f n 1 k ≡ none
+  kth_past p e l = place_in_past f n m 1 k p h (ap (place_in m) (sym e)) l
+
+  -- no position, none there either
+  pub kth_none : select_of f m 1 k ≡ none → select_of f n 1 k ≡ none
+  kth_none e = place_in_past f n m 1 k m h (ap (place_in m) (sym e)) h
 
 -- ---- the four rules
 -- what holds of the four pairs of bits holds of any two bits

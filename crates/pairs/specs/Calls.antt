@@ -1,12 +1,11 @@
 -- The calls that compare two strips: their refusals in order, and their answers. Assumes nothing.
-use Rattle.std.specs.Prelude.{ℕ, ◌+◌, ◌^◌, not, ◌&&◌, List, [], ◌∷◌, ◌++◌, length, eqb, ℤ, pos, neg_ℤ, ◌-ℤ◌, ◌≤ℤ◌}
+use Rattle.std.specs.Prelude.{ℕ, ◌+◌, ◌^◌, not, ◌&&◌, List, [], ◌∷◌, ◌++◌, length, eqb, ℤ, pos, neg_ℤ, ◌-ℤ◌, ◌≤ℤ◌, Result, Ok, Err}
 use Rattle.words.specs.declared.handle.Handle.{Handle}
+use Rattle.words.specs.declared.refusal.Refusal.{Refusal}
 use Rattle.words.specs.Strip.{strip_of, rank, select, span_ones}
 use Rattle.words.specs.Refusals.{number_of, Line, ◌⇒◌, judge, unless, Told, value, refused, found}
 use Rattle.words.specs.Handles.{most_bits, untaken, strip_lines}
 use Rattle.words.specs.Calls.{within_line, span_line}
-use Rattle.pairs.specs.declared.pair.Spanned.{Spanned}
-use Rattle.pairs.specs.declared.pair.Spanned.TheVariants.{Value, Refused}
 use Rattle.pairs.specs.Rules.{joined}
 
 -- two strips against each other: 16 capacity or length unequal
@@ -46,9 +45,9 @@ pub data SpannedTold : Type 0 where
   unspanned : ℕ → SpannedTold
 
 -- a span's answer by its integer or number
-abbrev pub spanned_of : Spanned → SpannedTold
-spanned_of (Value z) = spanned z
-spanned_of (Refused r) = unspanned (number_of r)
+abbrev pub spanned_of : Result ℤ Refusal → SpannedTold
+spanned_of (Ok z) = spanned z
+spanned_of (Err r) = unspanned (number_of r)
 
 -- as one number: the integer, or 2^32 plus the refusal's number
 abbrev pub coded_span : SpannedTold → ℤ

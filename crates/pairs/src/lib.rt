@@ -6,10 +6,10 @@ mod rule;
 mod scan;
 
 // Open to users: no `requires`, and a promise for every input.
-pub use pair::{Spanned, coded_span, pair_rank, pair_select, pair_span};
+pub use pair::{coded_span, pair_rank, pair_select, pair_span};
 pub use rule::Rule;
 
 // For the layers above.
 pub use pair::{check_pair, check_pair_within};
 pub use rule::join;
-pub use scan::{joined_place, words_passed};
+pub use scan::{Joined, words_passed};

@@ -1,165 +1,111 @@
 // The calls that compare two strips, each on its words alone. They ignore the bits past the length and write nothing.
-ghost use Rattle.std.specs.Prelude.{◌≡◌};
+ghost use Rattle.std.specs.Prelude.{◌≡◌, length};
 ghost use Rattle.words.specs.Refusals.{judge, verdict_of, told_of};
 ghost use Rattle.pairs.specs.Rules.{rule_of};
 ghost use Rattle.pairs.specs.Calls.{spanned_of, coded_span, equal_table, pair_lines, pair_within_table, pair_span_table, pair_rank_told, pair_select_told, pair_span_told};
 
 use super::rule::Rule;
-use super::scan::{joined_ones, joined_place};
-use words::{Answer, Handle, Refusal, UNTAKEN, Verdict, check_strip, number, span_ones};
-
-// What a span answers: a signed number, or its refusal.
-#[derive(Clone, Copy)]
-pub enum Spanned {
-    Value(i64),
-    Refused(Refusal),
-}
+use super::scan::Joined;
+use words::{Handle, Refusal, Strip, UNTAKEN, check_strip, span_ones};
 
 // A span's answer as one number: the value, or 2^32 plus the refusal's number.
-pub fn coded_span(d: Spanned) -> i64
+// Kept: beside words `coded`: a trait for the two types of number would be longer than its one arm.
+pub fn coded_span(d: Result<i64, Refusal>) -> i64
     ensures { result ≡ coded_span (spanned_of d) }
 {
     match d {
-        Spanned::Value(z) => z,
-        Spanned::Refused(r) => (4294967296 + number(r)) as i64,
+        Ok(z) => z,
+        Err(r) => (4294967296 + u64::from(r)) as i64,
     }
 }
 
 // The check of two strips against each other: 16.
-fn check_equal(first: Handle, second: Handle) -> Verdict
+fn check_equal(first: Handle, second: Handle) -> Result<(), Refusal>
     ensures { verdict_of result ≡ judge (equal_table first second) }
 {
-    if first.capacity != second.capacity {
-        return Verdict::Refuse(Refusal::Unequal);
+    if first.capacity != second.capacity || first.length != second.length {
+        return Err(Refusal::Unequal);
     }
-    if first.length != second.length {
-        return Verdict::Refuse(Refusal::Unequal);
-    }
-    Verdict::Pass
+    Ok(())
 }
 
-// The checks of a call on two strips: the first strip's 1, 2; the second's; 16. `words` and `others` are the numbers of words lent.
-pub fn check_pair(first: Handle, words: usize, second: Handle, others: usize) -> Verdict
-    ensures { verdict_of result ≡ judge (pair_lines first words second others) }
+// The checks of a call on two strips: the first strip's 1, 2; the second's; 16.
+pub fn check_pair(first: Strip, second: Strip) -> Result<(), Refusal>
+    ensures { verdict_of result ≡ judge (pair_lines first.entry.handle (length first.entry.words.now) second.entry.handle (length second.entry.words.now)) }
 {
-    let one = check_strip(first, words, UNTAKEN);
-    let other = check_strip(second, others, UNTAKEN);
-    let equal = check_equal(first, second);
-    let Verdict::Pass = one else {
-        return one;
-    };
-    let Verdict::Pass = other else {
-        return other;
-    };
-    equal
+    check_strip(first.handle, first.words.len(), UNTAKEN)?;
+    check_strip(second.handle, second.words.len(), UNTAKEN)?;
+    check_equal(first.handle, second.handle)
 }
 
 // The checks of one that takes a position not above the length: those of two strips, then 4.
-pub fn check_pair_within(
-    first: Handle,
-    words: usize,
-    second: Handle,
-    others: usize,
-    i: usize,
-) -> Verdict
-    ensures { verdict_of result ≡ judge (pair_within_table first words second others i) }
+pub fn check_pair_within(first: Strip, second: Strip, i: usize) -> Result<(), Refusal>
+    ensures { verdict_of result ≡ judge (pair_within_table first.entry.handle (length first.entry.words.now) second.entry.handle (length second.entry.words.now) i) }
 {
-    let verdict = check_pair(first, words, second, others);
-    let Verdict::Pass = verdict else {
-        return verdict;
-    };
-    if first.length < i {
-        return Verdict::Refuse(Refusal::Position);
+    check_pair(first, second)?;
+    if first.handle.length < i {
+        return Err(Refusal::Position);
     }
-    Verdict::Pass
+    Ok(())
 }
 
 // The checks of one that takes a span: those of two strips, then 5, 4.
-fn check_pair_span(
-    first: Handle,
-    words: usize,
-    second: Handle,
-    others: usize,
-    a: usize,
-    b: usize,
-) -> Verdict
-    ensures { verdict_of result ≡ judge (pair_span_table first words second others a b) }
+fn check_pair_span(first: Strip, second: Strip, a: usize, b: usize) -> Result<(), Refusal>
+    ensures { verdict_of result ≡ judge (pair_span_table first.entry.handle (length first.entry.words.now) second.entry.handle (length second.entry.words.now) a b) }
 {
-    let verdict = check_pair(first, words, second, others);
-    let Verdict::Pass = verdict else {
-        return verdict;
-    };
+    check_pair(first, second)?;
     if b < a {
-        return Verdict::Refuse(Refusal::Span);
+        return Err(Refusal::Span);
     }
-    if first.length < b {
-        return Verdict::Refuse(Refusal::Position);
+    if first.handle.length < b {
+        return Err(Refusal::Position);
     }
-    Verdict::Pass
+    Ok(())
 }
 
 // How many strokes before i the rule marks.
-pub fn pair_rank(
-    rule: Rule,
-    first: Handle,
-    xs: &[u64],
-    second: Handle,
-    ys: &[u64],
-    i: usize,
-) -> Answer
-    ensures { told_of result ≡ pair_rank_told (rule_of rule) first xs.now second ys.now i }
+pub fn pair_rank(rule: Rule, first: Strip, second: Strip, i: usize) -> Result<u64, Refusal>
+    ensures { told_of result ≡ pair_rank_told (rule_of rule) first.entry.handle first.entry.words.now second.entry.handle second.entry.words.now i }
 {
-    match check_pair_within(first, xs.len(), second, ys.len(), i) {
-        Verdict::Refuse(r) => Answer::Refused(r),
-        Verdict::Pass => Answer::Value(joined_ones(rule, xs, ys, i) as u64),
-    }
+    check_pair_within(first, second, i)?;
+    let joined = Joined {
+        rule,
+        xs: first.words,
+        ys: second.words,
+    };
+    Ok(joined.ones(i) as u64)
 }
 
 // The position of the k-th stroke, k from 0, that the rule marks.
-pub fn pair_select(
-    rule: Rule,
-    first: Handle,
-    xs: &[u64],
-    second: Handle,
-    ys: &[u64],
-    k: usize,
-) -> Answer
-    ensures { told_of result ≡ pair_select_told (rule_of rule) first xs.now second ys.now k }
+pub fn pair_select(rule: Rule, first: Strip, second: Strip, k: usize) -> Result<u64, Refusal>
+    ensures { told_of result ≡ pair_select_told (rule_of rule) first.entry.handle first.entry.words.now second.entry.handle second.entry.words.now k }
 {
-    match check_pair(first, xs.len(), second, ys.len()) {
-        Verdict::Refuse(r) => Answer::Refused(r),
-        Verdict::Pass => {
-            let n = first.length;
-            if n <= k {
-                return Answer::Refused(Refusal::NotFound);
-            }
-            let p = joined_place(rule, xs, ys, 0, (n + 63) / 64, k);
-            if p < n {
-                Answer::Value(p as u64)
-            } else {
-                Answer::Refused(Refusal::NotFound)
-            }
-        }
+    check_pair(first, second)?;
+    let n = first.handle.length;
+    if n <= k {
+        return Err(Refusal::NotFound);
+    }
+    let joined = Joined {
+        rule,
+        xs: first.words,
+        ys: second.words,
+    };
+    let Some(p) = joined.place(0, (n + 63) / 64, k) else {
+        return Err(Refusal::NotFound);
+    };
+    if p < n {
+        Ok(p as u64)
+    } else {
+        Err(Refusal::NotFound)
     }
 }
 
 // The ones of the first strip in positions a to b - 1 less those of the second.
-pub fn pair_span(
-    first: Handle,
-    xs: &[u64],
-    second: Handle,
-    ys: &[u64],
-    a: usize,
-    b: usize,
-) -> Spanned
-    ensures { spanned_of result ≡ pair_span_told first xs.now second ys.now a b }
+pub fn pair_span(first: Strip, second: Strip, a: usize, b: usize) -> Result<i64, Refusal>
+    ensures { spanned_of result ≡ pair_span_told first.entry.handle first.entry.words.now second.entry.handle second.entry.words.now a b }
 {
-    match check_pair_span(first, xs.len(), second, ys.len(), a, b) {
-        Verdict::Refuse(r) => Spanned::Refused(r),
-        Verdict::Pass => {
-            let p = span_ones(xs, a, b);
-            let q = span_ones(ys, a, b);
-            Spanned::Value((p as i64) - (q as i64))
-        }
-    }
+    check_pair_span(first, second, a, b)?;
+    let p = span_ones(first.words, a, b);
+    let q = span_ones(second.words, a, b);
+    Ok((p as i64) - (q as i64))
 }

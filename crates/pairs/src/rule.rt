@@ -3,7 +3,7 @@ ghost use Rattle.pairs.specs.Rules.{rule_of};
 ghost use Rattle.pairs.specs.Working.{JoinedWord};
 
 // Which strokes a count or a find takes: those that the rule marks, giving 1.
-#[derive(Clone, Copy)]
+#[derive(Clone, Copy, Debug, PartialEq, Eq, Hash)]
 pub enum Rule {
     // those that both strips mark
     Both,

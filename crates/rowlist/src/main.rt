@@ -3,10 +3,11 @@
 
 ghost use Rattle.std.specs.Prelude.{◌≤◌, length, IfOk};
 
-use listing::{Listed, MOST_LISTED, TEXT_BYTES, write_rows};
+use listing::{MOST_LISTED, TEXT_BYTES, write_rows};
 use std::io::{self, Read, Write};
 
 // Fills a buffer from a reader, or up to where that ends, and answers how many bytes there were.
+// Kept: std's `read_exact` fails where the input is shorter, and its `read_to_end` needs the heap.
 fn read_full<R: Read>(reader: &mut R, out: &mut [u8]) -> io::Result<usize>
     ensures { IfOk result (λ n. n ≤ length out.old) }
 {
@@ -26,9 +27,8 @@ fn main(rt: HostRuntime) -> io::Result<()> {
     let mut image = [0u8; MOST_LISTED + 1];
     let n = read_full(&mut rt.stdin(), &mut image)?;
     let mut text = [0u8; TEXT_BYTES];
-    let listed = write_rows(&image[..n], &mut text);
-    let Listed::Written(k) = listed else {
-        return Ok(());
-    };
-    rt.stdout().write_all(&text[..k])
+    match write_rows(&image[..n], &mut text) {
+        Some(k) => rt.stdout().write_all(&text[..k]),
+        None => Ok(()),
+    }
 }

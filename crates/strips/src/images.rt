@@ -1,15 +1,14 @@
-// The calls on an image, and the queries of its sizes and rows. A refusal comes as 2^32 plus its number.
+// The calls on an image that a display does not have, and the query of a record's size. A refusal comes as 2^32 plus its number.
 ghost use Rattle.std.specs.Prelude.{◌≡◌};
-ghost use Rattle.words.specs.Refusals.{coded as coded_of, CodedAs};
+ghost use Rattle.words.specs.Refusals.{coded as coded_of};
 ghost use Rattle.words.specs.Handles.{handle};
-ghost use Rattle.image.specs.Calls.{clear_outcome, freeze_outcome, inspect_told, row_get_told, RowRanked, RowSelected, record_size_told, row_length_told, row_label_told};
+ghost use Rattle.image.specs.Calls.{clear_outcome, freeze_outcome, record_size_told};
 ghost use Rattle.merging.specs.Calls.{merge_outcome};
 
-use image::{
-    clear, freeze, inspect, record_bytes, row_get, row_label, row_length, row_rank, row_select,
-};
+use super::lent::strip_over;
+use image::{clear, freeze, record_bytes};
 use merging::merge;
-use words::{Handle, coded};
+use words::coded;
 
 // clear: the header of an empty chain.
 pub fn image_clear(image: &mut [u8]) -> u64
@@ -30,19 +29,8 @@ pub fn image_freeze(
     ensures { (result ≡ coded_of (freeze_outcome (handle capacity length total) words.now image.old label).told) ×
         (image.new ≡ (freeze_outcome (handle capacity length total) words.now image.old label).image) }
 {
-    coded(freeze(
-        Handle::new(capacity as usize, length as usize, total as usize),
-        words,
-        image,
-        label as usize,
-    ))
-}
-
-// inspect: the number of rows.
-pub fn image_inspect(image: &[u8]) -> u64
-    ensures { result ≡ coded_of (inspect_told image.now) }
-{
-    coded(inspect(image))
+    let strip = strip_over(capacity, length, total, words);
+    coded(freeze(strip, image, label as usize))
 }
 
 // merge: the first image's rows, then those of the second whose label the first lacks, written out over what the third buffer held.
@@ -53,44 +41,9 @@ pub fn image_merge(first: &[u8], second: &[u8], third: &mut [u8]) -> u64
     coded(merge(first, second, third))
 }
 
-// row count(v, i): how many of the first i bits of the label's row equal v.
-pub fn image_row_rank(image: &[u8], label: u64, v: u64, i: u64) -> u64
-    ensures { CodedAs (RowRanked image.now label v i) result }
-{
-    coded(row_rank(image, label as usize, v, i as usize))
-}
-
-// row find(v, k): the position in the label's row that holds v and has k of v before it.
-pub fn image_row_select(image: &[u8], label: u64, v: u64, k: u64) -> u64
-    ensures { CodedAs (RowSelected image.now label v k) result }
-{
-    coded(row_select(image, label as usize, v, k as usize))
-}
-
-// row look(i): the bit at position i of the label's row.
-pub fn image_row_get(image: &[u8], label: u64, i: u64) -> u64
-    ensures { result ≡ coded_of (row_get_told image.now label i) }
-{
-    coded(row_get(image, label as usize, i as usize))
-}
-
 // The bytes of the record of a row of so many bits.
 pub fn image_record_size(length: u64) -> u64
     ensures { result ≡ coded_of (record_size_told length) }
 {
     coded(record_bytes(length as usize))
-}
-
-// The length of the label's row, in bits.
-pub fn image_row_length(image: &[u8], label: u64) -> u64
-    ensures { result ≡ coded_of (row_length_told image.now label) }
-{
-    coded(row_length(image, label as usize))
-}
-
-// The label of the k-th row, in chain order.
-pub fn image_row_label(image: &[u8], k: u64) -> u64
-    ensures { result ≡ coded_of (row_label_told image.now k) }
-{
-    coded(row_label(image, k as usize))
 }

@@ -3,16 +3,18 @@
 #![tactic(auto)]
 
 mod images;
+mod lent;
 mod pair;
 mod record;
 mod strip;
 mod wait;
 
 // Open to users: no `requires`, and a promise for every input.
-pub use images::{
-    image_clear, image_freeze, image_inspect, image_merge, image_record_size, image_row_get,
-    image_row_label, image_row_length, image_row_rank, image_row_select,
+pub use display::{
+    image_inspect, image_row_get, image_row_label, image_row_length, image_row_rank,
+    image_row_select,
 };
+pub use images::{image_clear, image_freeze, image_merge, image_record_size};
 pub use pair::{
     strip_pair_both, strip_pair_differ, strip_pair_either, strip_pair_find, strip_pair_only_first,
     strip_pair_span,
@@ -25,4 +27,5 @@ pub use strip::{strip_burst, strip_counter_count, strip_get, strip_predecessor, 
 pub use wait::{strip_waiting_count, strip_waiting_find};
 
 // For the exports of tests.
-pub use record::{OUT_NUMBERS, write_out};
+pub use lent::handle_over;
+pub use record::{OUT_NUMBERS, write_change};

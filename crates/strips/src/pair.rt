@@ -3,37 +3,12 @@
 ghost use Rattle.std.specs.Prelude.{◌≡◌};
 ghost use Rattle.words.specs.Refusals.{coded as coded_of};
 ghost use Rattle.words.specs.Handles.{handle};
-ghost use Rattle.pairs.specs.Rules.{both, either, only_first, differ, rule_of};
+ghost use Rattle.pairs.specs.Rules.{both, either, only_first, differ};
 ghost use Rattle.pairs.specs.Calls.{pair_rank_told, pair_select_told, pair_span_told, coded_span};
 
+use super::lent::strip_over;
 use pairs::{Rule, coded_span, pair_rank, pair_select, pair_span};
-use words::{Handle, coded};
-
-// How many strokes before i a rule marks.
-fn rule_rank(
-    rule: Rule,
-    capacity: u64,
-    length: u64,
-    total: u64,
-    words: &[u64],
-    capacity2: u64,
-    length2: u64,
-    total2: u64,
-    words2: &[u64],
-    i: u64,
-) -> u64
-    ensures { result ≡ coded_of (pair_rank_told (rule_of rule) (handle capacity length total) words.now
-        (handle capacity2 length2 total2) words2.now i) }
-{
-    coded(pair_rank(
-        rule,
-        Handle::new(capacity as usize, length as usize, total as usize),
-        words,
-        Handle::new(capacity2 as usize, length2 as usize, total2 as usize),
-        words2,
-        i as usize,
-    ))
-}
+use words::coded;
 
 // How many strokes before i both strips mark.
 pub fn strip_pair_both(
@@ -50,18 +25,9 @@ pub fn strip_pair_both(
     ensures { result ≡ coded_of (pair_rank_told both (handle capacity length total) words.now
         (handle capacity2 length2 total2) words2.now i) }
 {
-    rule_rank(
-        Rule::Both,
-        capacity,
-        length,
-        total,
-        words,
-        capacity2,
-        length2,
-        total2,
-        words2,
-        i,
-    )
+    let first = strip_over(capacity, length, total, words);
+    let second = strip_over(capacity2, length2, total2, words2);
+    coded(pair_rank(Rule::Both, first, second, i as usize))
 }
 
 // How many strokes before i either marks.
@@ -79,18 +45,9 @@ pub fn strip_pair_either(
     ensures { result ≡ coded_of (pair_rank_told either (handle capacity length total) words.now
         (handle capacity2 length2 total2) words2.now i) }
 {
-    rule_rank(
-        Rule::Either,
-        capacity,
-        length,
-        total,
-        words,
-        capacity2,
-        length2,
-        total2,
-        words2,
-        i,
-    )
+    let first = strip_over(capacity, length, total, words);
+    let second = strip_over(capacity2, length2, total2, words2);
+    coded(pair_rank(Rule::Either, first, second, i as usize))
 }
 
 // How many strokes before i only the first marks.
@@ -108,18 +65,9 @@ pub fn strip_pair_only_first(
     ensures { result ≡ coded_of (pair_rank_told only_first (handle capacity length total) words.now
         (handle capacity2 length2 total2) words2.now i) }
 {
-    rule_rank(
-        Rule::OnlyFirst,
-        capacity,
-        length,
-        total,
-        words,
-        capacity2,
-        length2,
-        total2,
-        words2,
-        i,
-    )
+    let first = strip_over(capacity, length, total, words);
+    let second = strip_over(capacity2, length2, total2, words2);
+    coded(pair_rank(Rule::OnlyFirst, first, second, i as usize))
 }
 
 // How many strokes before i the strips judge differently.
@@ -137,18 +85,9 @@ pub fn strip_pair_differ(
     ensures { result ≡ coded_of (pair_rank_told differ (handle capacity length total) words.now
         (handle capacity2 length2 total2) words2.now i) }
 {
-    rule_rank(
-        Rule::Differ,
-        capacity,
-        length,
-        total,
-        words,
-        capacity2,
-        length2,
-        total2,
-        words2,
-        i,
-    )
+    let first = strip_over(capacity, length, total, words);
+    let second = strip_over(capacity2, length2, total2, words2);
+    coded(pair_rank(Rule::Differ, first, second, i as usize))
 }
 
 // The position of the k-th stroke, k from 0, that they judge differently.
@@ -166,14 +105,9 @@ pub fn strip_pair_find(
     ensures { result ≡ coded_of (pair_select_told differ (handle capacity length total) words.now
         (handle capacity2 length2 total2) words2.now k) }
 {
-    coded(pair_select(
-        Rule::Differ,
-        Handle::new(capacity as usize, length as usize, total as usize),
-        words,
-        Handle::new(capacity2 as usize, length2 as usize, total2 as usize),
-        words2,
-        k as usize,
-    ))
+    let first = strip_over(capacity, length, total, words);
+    let second = strip_over(capacity2, length2, total2, words2);
+    coded(pair_select(Rule::Differ, first, second, k as usize))
 }
 
 // The ones of the first in positions a to b - 1 less those of the second.
@@ -192,12 +126,7 @@ pub fn strip_pair_span(
     ensures { result ≡ coded_span (pair_span_told (handle capacity length total) words.now
         (handle capacity2 length2 total2) words2.now a b) }
 {
-    coded_span(pair_span(
-        Handle::new(capacity as usize, length as usize, total as usize),
-        words,
-        Handle::new(capacity2 as usize, length2 as usize, total2 as usize),
-        words2,
-        a as usize,
-        b as usize,
-    ))
+    let first = strip_over(capacity, length, total, words);
+    let second = strip_over(capacity2, length2, total2, words2);
+    coded_span(pair_span(first, second, a as usize, b as usize))
 }

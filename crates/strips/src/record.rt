@@ -8,8 +8,9 @@ ghost use Rattle.counters.specs.Calls.{Ranked, Selected, verify_told, create_out
 ghost use Rattle.words.specs.Refusals.{coded as coded_of, CodedAs};
 ghost use Rattle.strips.specs.Exports.{out_numbers, out_with, changed_out, created_out, out_over, lent, reported, Reported};
 
-use counters::{Changed, Created, create, fill, flip, push, rank, select, truncate, verify};
-use words::{Handle, coded, number};
+use super::lent::{handle_over, record_over, write_numbers};
+use counters::{Change, create, fill, flip, push, truncate};
+use words::{Handle, Refusal, coded};
 
 // count(v, i): how many of the first i bits equal v.
 pub fn strip_rank(
@@ -23,13 +24,7 @@ pub fn strip_rank(
 ) -> u64
     ensures { CodedAs (Ranked (handle capacity length total) v i words.now counters.now) result }
 {
-    coded(rank(
-        Handle::new(capacity as usize, length as usize, total as usize),
-        words,
-        counters,
-        v,
-        i as usize,
-    ))
+    coded(record_over(capacity, length, total, words, counters).rank(v, i as usize))
 }
 
 // find(v, k): the position that holds v and has k of v before it.
@@ -44,61 +39,43 @@ pub fn strip_select(
 ) -> u64
     ensures { CodedAs (Selected (handle capacity length total) v k words.now counters.now) result }
 {
-    coded(select(
-        Handle::new(capacity as usize, length as usize, total as usize),
-        words,
-        counters,
-        v,
-        k as usize,
-    ))
+    coded(record_over(capacity, length, total, words, counters).select(v, k as usize))
 }
 
 // check: the ones held, or 9 where the record does not fit.
 pub fn strip_verify(capacity: u64, length: u64, total: u64, words: &[u64], counters: &[u32]) -> u64
     ensures { result ≡ coded_of (verify_told (handle capacity length total) words.now counters.now) }
 {
-    coded(verify(
-        Handle::new(capacity as usize, length as usize, total as usize),
-        words,
-        counters,
-    ))
+    coded(record_over(capacity, length, total, words, counters).verify())
 }
 
 // How many numbers a change writes to `out`.
 pub const OUT_NUMBERS: usize = 6;
 
 // Writes the six numbers.
-pub fn write_out(out: &mut [u64], refusal: u64, x: u64, y: u64, h: Handle)
+fn write_out(out: &mut [u64], refusal: u64, x: u64, y: u64, h: Handle)
     requires { out_numbers ≤ length out.old }
     ensures { out.new ≡ out_over (out_with refusal x y h) out.old }
 {
-    out[0] = refusal;
-    out[1] = x;
-    out[2] = y;
-    out[3] = h.capacity as u64;
-    out[4] = h.length as u64;
-    out[5] = h.total as u64;
+    let numbers = [
+        refusal,
+        x,
+        y,
+        h.capacity as u64,
+        h.length as u64,
+        h.total as u64,
+    ];
+    write_numbers(out, numbers);
 }
 
-// Writes what a change answers.
-fn write_changed(out: &mut [u64], m: Changed)
+// Writes what a change answers that got the handle h.
+pub fn write_change(out: &mut [u64], h: Handle, m: Result<Change, Refusal>)
     requires { out_numbers ≤ length out.old }
-    ensures { out.new ≡ out_over (changed_out (changed_of m)) out.old }
+    ensures { out.new ≡ out_over (changed_out (changed_of h m)) out.old }
 {
     match m {
-        Changed::Done(h, x, y) => write_out(out, 0, x, y, h),
-        Changed::Refused(h, r) => write_out(out, number(r), 0, 0, h),
-    }
-}
-
-// Writes what laying answers.
-fn write_created(out: &mut [u64], m: Created)
-    requires { out_numbers ≤ length out.old }
-    ensures { out.new ≡ out_over (created_out (created_of m)) out.old }
-{
-    match m {
-        Created::Done(h, x) => write_out(out, 0, x, 0, h),
-        Created::Refused(r) => write_out(out, number(r), 0, 0, Handle::new(0, 0, 0)),
+        Ok(c) => write_out(out, 0, c.first, c.second, c.handle),
+        Err(r) => write_out(out, u64::from(r), 0, 0, h),
     }
 }
 
@@ -110,8 +87,12 @@ pub fn strip_create(capacity: u64, words: &mut [u64], counters: &mut [u32], out:
     if out.len() < OUT_NUMBERS {
         return;
     }
-    let m = create(capacity as usize, words, counters);
-    write_created(out, m);
+    let m = create(capacity as usize, words, counters).map(|l| Change {
+        handle: l.handle,
+        first: l.counters,
+        second: 0,
+    });
+    write_change(out, Handle::new(0, 0, 0), m);
 }
 
 // add(v): appends v.
@@ -130,13 +111,9 @@ pub fn strip_push(
     if out.len() < OUT_NUMBERS {
         return;
     }
-    let m = push(
-        Handle::new(capacity as usize, length as usize, total as usize),
-        words,
-        counters,
-        v,
-    );
-    write_changed(out, m);
+    let h = handle_over(capacity, length, total);
+    let m = push(h, words, counters, v);
+    write_change(out, h, m);
 }
 
 // turn(i): replaces a bit by its opposite.
@@ -155,13 +132,9 @@ pub fn strip_flip(
     if out.len() < OUT_NUMBERS {
         return;
     }
-    let m = flip(
-        Handle::new(capacity as usize, length as usize, total as usize),
-        words,
-        counters,
-        i as usize,
-    );
-    write_changed(out, m);
+    let h = handle_over(capacity, length, total);
+    let m = flip(h, words, counters, i as usize);
+    write_change(out, h, m);
 }
 
 // run(a, b, v): sets the positions a to b - 1 to v.
@@ -182,15 +155,9 @@ pub fn strip_fill(
     if out.len() < OUT_NUMBERS {
         return;
     }
-    let m = fill(
-        Handle::new(capacity as usize, length as usize, total as usize),
-        words,
-        counters,
-        a as usize,
-        b as usize,
-        v,
-    );
-    write_changed(out, m);
+    let h = handle_over(capacity, length, total);
+    let m = fill(h, words, counters, a as usize, b as usize, v);
+    write_change(out, h, m);
 }
 
 // cut(n): keeps the first n.
@@ -209,11 +176,7 @@ pub fn strip_truncate(
     if out.len() < OUT_NUMBERS {
         return;
     }
-    let m = truncate(
-        Handle::new(capacity as usize, length as usize, total as usize),
-        words,
-        counters,
-        n as usize,
-    );
-    write_changed(out, m);
+    let h = handle_over(capacity, length, total);
+    let m = truncate(h, words, counters, n as usize);
+    write_change(out, h, m);
 }

@@ -6,31 +6,23 @@ ghost use Rattle.words.specs.Calls.{get_told, successor_told, predecessor_told};
 ghost use Rattle.counters.specs.Calls.{counters_told};
 ghost use Rattle.bursts.specs.Calls.{Burst};
 
+use super::lent::strip_over;
 use bursts::burst;
 use counters::counters_needed;
-use words::{Handle, coded, get, predecessor, successor};
+use words::coded;
 
 // look(i): the bit at position i.
 pub fn strip_get(capacity: u64, length: u64, total: u64, words: &[u64], i: u64) -> u64
     ensures { result ≡ coded_of (get_told (handle capacity length total) words.now i) }
 {
-    coded(get(
-        Handle::new(capacity as usize, length as usize, total as usize),
-        words,
-        i as usize,
-    ))
+    coded(strip_over(capacity, length, total, words).get(i as usize))
 }
 
 // next(v, i): the smallest position at or past i that holds v.
 pub fn strip_successor(capacity: u64, length: u64, total: u64, words: &[u64], v: u64, i: u64) -> u64
     ensures { result ≡ coded_of (successor_told (handle capacity length total) words.now v i) }
 {
-    coded(successor(
-        Handle::new(capacity as usize, length as usize, total as usize),
-        words,
-        v,
-        i as usize,
-    ))
+    coded(strip_over(capacity, length, total, words).successor(v, i as usize))
 }
 
 // prior(v, i): the largest position below i that holds v.
@@ -44,24 +36,15 @@ pub fn strip_predecessor(
 ) -> u64
     ensures { result ≡ coded_of (predecessor_told (handle capacity length total) words.now v i) }
 {
-    coded(predecessor(
-        Handle::new(capacity as usize, length as usize, total as usize),
-        words,
-        v,
-        i as usize,
-    ))
+    coded(strip_over(capacity, length, total, words).predecessor(v, i as usize))
 }
 
 // burst(w, m): the start of a window of w strokes that holds at least m misfires.
 pub fn strip_burst(capacity: u64, length: u64, total: u64, words: &[u64], w: u64, m: u64) -> u64
     ensures { CodedAs (Burst (handle capacity length total) words.now w m) result }
 {
-    coded(burst(
-        Handle::new(capacity as usize, length as usize, total as usize),
-        words,
-        w as usize,
-        m as usize,
-    ))
+    let strip = strip_over(capacity, length, total, words);
+    coded(burst(strip, w as usize, m as usize))
 }
 
 // How many counters a capacity needs.

@@ -1,54 +1,36 @@
 // The waiting calls: the strip's capacity, length, total and words, then the waiting strip's. They write to the front of `out`: refusal or 0, then the values,
 // 0 where refused. With an `out` shorter than these numbers, three of a count and four of a find, nothing runs.
-ghost use Rattle.std.specs.Prelude.{◌≡◌, [], ◌∷◌, ◌≤◌, length};
+ghost use Rattle.std.specs.Prelude.{◌≡◌, ◌≤◌, length};
 ghost use Rattle.words.specs.Handles.{handle};
 ghost use Rattle.waiting.specs.Calls.{rank_told_of, select_told_of, WaitingRank, WaitingSelect};
 ghost use Rattle.strips.specs.Exports.{numbers_over, rank_numbers, select_numbers, Written};
 
-use waiting::{RankAnswer, SelectAnswer, waiting_rank, waiting_select};
-use words::{Handle, number};
-
-// Writes three numbers.
-fn write_three(out: &mut [u64], a: u64, b: u64, c: u64)
-    requires { 3 ≤ length out.old }
-    ensures { out.new ≡ numbers_over 3 (a ∷ b ∷ c ∷ []) out.old }
-{
-    out[0] = a;
-    out[1] = b;
-    out[2] = c;
-}
-
-// Writes four numbers.
-fn write_four(out: &mut [u64], a: u64, b: u64, c: u64, d: u64)
-    requires { 4 ≤ length out.old }
-    ensures { out.new ≡ numbers_over 4 (a ∷ b ∷ c ∷ d ∷ []) out.old }
-{
-    out[0] = a;
-    out[1] = b;
-    out[2] = c;
-    out[3] = d;
-}
+use super::lent::{strip_over, write_numbers};
+use waiting::{Counts, Places, waiting_rank, waiting_select};
+use words::Refusal;
 
 // Writes what a waiting count answers.
-fn write_rank(out: &mut [u64], m: RankAnswer)
+fn write_rank(out: &mut [u64], m: Result<Counts, Refusal>)
     requires { 3 ≤ length out.old }
     ensures { out.new ≡ numbers_over 3 (rank_numbers (rank_told_of m)) out.old }
 {
     match m {
-        RankAnswer::LeastMost(least, most) => write_three(out, 0, least, most),
-        RankAnswer::Refused(r) => write_three(out, number(r), 0, 0),
+        Ok(c) => write_numbers(out, [0, c.least, c.most]),
+        Err(r) => write_numbers(out, [u64::from(r), 0, 0]),
     }
 }
 
 // Writes what a waiting find answers.
-fn write_select(out: &mut [u64], m: SelectAnswer)
+fn write_select(out: &mut [u64], m: Result<Places, Refusal>)
     requires { 4 ≤ length out.old }
     ensures { out.new ≡ numbers_over 4 (select_numbers (select_told_of m)) out.old }
 {
     match m {
-        SelectAnswer::FromTo(earliest, latest) => write_four(out, 0, earliest, 1, latest),
-        SelectAnswer::FromOn(earliest) => write_four(out, 0, earliest, 0, 0),
-        SelectAnswer::Refused(r) => write_four(out, number(r), 0, 0, 0),
+        Err(r) => write_numbers(out, [u64::from(r), 0, 0, 0]),
+        Ok(p) => match p.latest {
+            Some(latest) => write_numbers(out, [0, p.earliest, 1, latest]),
+            None => write_numbers(out, [0, p.earliest, 0, 0]),
+        },
     }
 }
 
@@ -72,13 +54,9 @@ pub fn strip_waiting_count(
     if out.len() < 3 {
         return;
     }
-    let m = waiting_rank(
-        Handle::new(capacity as usize, length as usize, total as usize),
-        words,
-        Handle::new(capacity2 as usize, length2 as usize, total2 as usize),
-        words2,
-        i as usize,
-    );
+    let strip = strip_over(capacity, length, total, words);
+    let waiting = strip_over(capacity2, length2, total2, words2);
+    let m = waiting_rank(strip, waiting, i as usize);
     write_rank(out, m);
 }
 
@@ -102,12 +80,8 @@ pub fn strip_waiting_find(
     if out.len() < 4 {
         return;
     }
-    let m = waiting_select(
-        Handle::new(capacity as usize, length as usize, total as usize),
-        words,
-        Handle::new(capacity2 as usize, length2 as usize, total2 as usize),
-        words2,
-        k as usize,
-    );
+    let strip = strip_over(capacity, length, total, words);
+    let waiting = strip_over(capacity2, length2, total2, words2);
+    let m = waiting_select(strip, waiting, k as usize);
     write_select(out, m);
 }

@@ -2,10 +2,10 @@
 ghost use Rattle.std.specs.Prelude.{◌≡◌};
 ghost use Rattle.words.specs.Refusals.{told_of, coded as coded_of, CodedAs};
 ghost use Rattle.image.specs.Kinds.{kind1};
-ghost use Rattle.image.specs.Calls.{open_told, open_part, held_length, part_get_told, PartRanked, PartSelected, row_get_told, RowRanked, RowSelected};
+ghost use Rattle.image.specs.Calls.{open_told, part_get_told, PartRanked, PartSelected, row_get_told, RowRanked, RowSelected};
 
 use image::{Row, open_row, part_get, part_rank, part_select};
-use words::{Answer, coded};
+use words::{Refusal, coded};
 
 // Opening: the byte where the label's record starts.
 pub fn image_open(image: &[u8], label: u64) -> u64
@@ -35,56 +35,47 @@ pub fn image_part_select(part: &[u8], n: u64, v: u64, k: u64) -> u64
     coded(part_select(part, n as usize, v, k as usize))
 }
 
-// look(i) on an opened row.
-fn opened_get(image: &[u8], label: usize, i: usize) -> Answer
-    ensures { told_of result ≡ part_get_told kind1 (open_part image.now label) (held_length (open_part image.now label)) i }
+// Opening a row, then look(i) on it; a refusal of the opening passes through unchanged.
+fn opened_get(image: &[u8], label: usize, i: usize) -> Result<u64, Refusal>
+    ensures { told_of result ≡ row_get_told image.now label i }
 {
+    open_row(image, label)?;
     Row::open(image, label).get(i)
 }
 
-// count(v, i) on an opened row.
-fn opened_rank(image: &[u8], label: usize, v: u64, i: usize) -> Answer
-    ensures { PartRanked kind1 (open_part image.now label) (held_length (open_part image.now label)) v i (told_of result) }
+// Opening a row, then count(v, i) on it.
+fn opened_rank(image: &[u8], label: usize, v: u64, i: usize) -> Result<u64, Refusal>
+    ensures { RowRanked image.now label v i (told_of result) }
 {
+    open_row(image, label)?;
     Row::open(image, label).rank(v, i)
 }
 
-// find(v, k) on an opened row.
-fn opened_select(image: &[u8], label: usize, v: u64, k: usize) -> Answer
-    ensures { PartSelected kind1 (open_part image.now label) (held_length (open_part image.now label)) v k (told_of result) }
+// Opening a row, then find(v, k) on it.
+fn opened_select(image: &[u8], label: usize, v: u64, k: usize) -> Result<u64, Refusal>
+    ensures { RowSelected image.now label v k (told_of result) }
 {
+    open_row(image, label)?;
     Row::open(image, label).select(v, k)
 }
 
-// Opening a row, then look(i) on it; a refusal of the opening passes through unchanged.
+// look(i) on the row of a label, opened first.
 pub fn image_opened_get(image: &[u8], label: u64, i: u64) -> u64
     ensures { result ≡ coded_of (row_get_told image.now label i) }
 {
-    let o = open_row(image, label as usize);
-    let Answer::Value(_) = o else {
-        return coded(o);
-    };
     coded(opened_get(image, label as usize, i as usize))
 }
 
-// Opening a row, then count(v, i) on it; a refusal of the opening passes through unchanged.
+// count(v, i) on the row of a label, opened first.
 pub fn image_opened_rank(image: &[u8], label: u64, v: u64, i: u64) -> u64
     ensures { CodedAs (RowRanked image.now label v i) result }
 {
-    let o = open_row(image, label as usize);
-    let Answer::Value(_) = o else {
-        return coded(o);
-    };
     coded(opened_rank(image, label as usize, v, i as usize))
 }
 
-// Opening a row, then find(v, k) on it; a refusal of the opening passes through unchanged.
+// find(v, k) on the row of a label, opened first.
 pub fn image_opened_select(image: &[u8], label: u64, v: u64, k: u64) -> u64
     ensures { CodedAs (RowSelected image.now label v k) result }
 {
-    let o = open_row(image, label as usize);
-    let Answer::Value(_) = o else {
-        return coded(o);
-    };
     coded(opened_select(image, label as usize, v, k as usize))
 }

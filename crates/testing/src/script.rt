@@ -6,8 +6,7 @@ ghost use Rattle.machine.specs.Runner.{ended, Executed};
 ghost use Rattle.testing.specs.Steps.{lent_all, StepReported};
 
 use machine::{execute, step};
-use strips::{OUT_NUMBERS, write_out};
-use words::Handle;
+use strips::{OUT_NUMBERS, handle_over, write_change};
 
 // The opening lay and clear, clear's refusals first where `order` is not 0, then every call of a script.
 pub fn strip_execute(
@@ -56,15 +55,7 @@ pub fn strip_step(
     if out.len() < OUT_NUMBERS {
         return;
     }
-    let t = step(
-        op,
-        x,
-        y,
-        z,
-        Handle::new(capacity as usize, length as usize, total as usize),
-        words,
-        counters,
-        image,
-    );
-    write_out(out, t.refusal, t.first, t.second, t.handle);
+    let h = handle_over(capacity, length, total);
+    let m = step(op, x, y, z, h, words, counters, image);
+    write_change(out, h, m);
 }

@@ -2,20 +2,20 @@
 use mathlib.Core.Path.{◌≡◌, refl, sym, ap, ap₂, subst, ◌∙◌}
 use mathlib.Core.List.{List}
 use mathlib.Core.Option.{Option, some, none}
-use Prim.Native.Nat.{ℕ, ◌*◌, ◌≤◌, ◌<◌}
+use Prim.Native.Nat.{ℕ, ◌≤◌}
 use native.Mathlib.Omega.{arith}
 use lib.ListN.{length}
 use Rattle.words.specs.declared.handle.Handle.{Handle}
 use Rattle.words.specs.Strip.{strip_of, rank_of, select_of, rank, select}
 use Rattle.words.proofs.CheckLaws.{not_both, judged_unique, right_number}
-use Rattle.words.proofs.SearchLaws.{select_beyond, place_in_below, place_in_past}
+use Rattle.words.proofs.SearchLaws.{select_beyond}
 use Rattle.words.proofs.StripLaws.{strip_length, strip_le}
 use Rattle.pairs.specs.Rules.{either, only_first, joined}
 use Rattle.pairs.specs.Calls.{pair_lines, pair_within_table}
 use Rattle.pairs.proofs.JoinLaws.{joined_rank, joined_select}
 use Rattle.waiting.specs.Outcomes.{Outcome, Reached, RankRange, Earliest, Latest, SomeLacks, AllLack, NoneLacks}
 use Rattle.waiting.specs.Calls.{RankTold, least_most, unranked, SelectTold, from_to, from_on, unselected, RightRank, RightSelect, WaitingRank, WaitingSelect}
-use Rattle.waiting.specs.Working.{must_bit, may_bit, place_of}
+use Rattle.waiting.specs.Working.{must_bit, may_bit}
 use Rattle.waiting.proofs.OutcomeLaws.{rank_range, select_earliest, select_latest, select_lacking, select_none}
 
 module _ (s t : List ℕ) where
@@ -109,33 +109,25 @@ module _ (ws vs : List ℕ) (n m : ℕ) (e : n ≡ m) where
     must_found : (o : Option ℕ) → select_of (must_bit ws vs) n 1 k ≡ o → select (joined only_first (strip_of ws n) (strip_of vs m)) 1 k ≡ o
     must_found o h = joined_select only_first ws vs n m k e ∙ h
 
+    -- none that may be
+    pub right_none : select_of (may_bit ws vs) n 1 k ≡ none → RightSelect (strip_of ws n) (strip_of vs m) k (unselected 6)
+    right_none h = (select_none (strip_of ws n) (strip_of vs m) (strip_le ws n) (strip_le vs m) k (may_found none h), refl)
+
     -- k not below the length
     pub right_beyond : n ≤ k → RightSelect (strip_of ws n) (strip_of vs m) k (unselected 6)
-    right_beyond h =
-        (select_none (strip_of ws n) (strip_of vs m) (strip_le ws n) (strip_le vs m) k (may_found none (select_beyond (may_bit ws vs) n 1 k h)), refl)
+    right_beyond h = right_none (select_beyond (may_bit ws vs) n 1 k h)
 
-    -- the places a and b in `to` words that hold the length
-    module _ (to a b : ℕ) (long : n ≤ 64 * to) (ea : a ≡ place_of (may_bit ws vs) to k) (eb : b ≡ place_of (must_bit ws vs) to k) where
-      first : a < n → Earliest (strip_of ws n) (strip_of vs m) k a
-      first l =
-          select_earliest (strip_of ws n) (strip_of vs m) (strip_le ws n) (strip_le vs m) k a
-          (may_found (some a) (place_in_below (may_bit ws vs) n (64 * to) 1 k a long ea l))
+    -- the k-th that may be lies at a
+    module _ (a : ℕ) (ea : select_of (may_bit ws vs) n 1 k ≡ some a) where
+      first : Earliest (strip_of ws n) (strip_of vs m) k a
+      first = select_earliest (strip_of ws n) (strip_of vs m) (strip_le ws n) (strip_le vs m) k a (may_found (some a) ea)
 
-      pub right_none : n ≤ a → RightSelect (strip_of ws n) (strip_of vs m) k (unselected 6)
-      right_none l = (
-        select_none (strip_of ws n) (strip_of vs m) (strip_le ws n) (strip_le vs m) k (may_found none (place_in_past (may_bit ws vs) n (64 * to) 1 k a long ea l)),
-        refl,
-      )
+      -- and the k-th that must be at b
+      pub right_to : (b : ℕ) → select_of (must_bit ws vs) n 1 k ≡ some b → RightSelect (strip_of ws n) (strip_of vs m) k (from_to a b)
+      right_to b eb =
+          let w = select_latest (strip_of ws n) (strip_of vs m) (strip_le ws n) (strip_le vs m) k b (must_found (some b) eb) in
+          (w.0, first, w.1)
 
-      pub right_to : a < n → b < n → RightSelect (strip_of ws n) (strip_of vs m) k (from_to a b)
-      right_to l r =
-          let w = select_latest (strip_of ws n) (strip_of vs m) (strip_le ws n) (strip_le vs m) k b
-          (must_found (some b) (place_in_below (must_bit ws vs) n (64 * to) 1 k b long eb r)) in
-          (w.0, first l, w.1)
-
-      pub right_on : a < n → n ≤ b → RightSelect (strip_of ws n) (strip_of vs m) k (from_on a)
-      right_on l r = (
-        select_lacking (strip_of ws n) (strip_of vs m) (strip_le ws n) (strip_le vs m) k
-            (must_found none (place_in_past (must_bit ws vs) n (64 * to) 1 k b long eb r)),
-        first l,
-      )
+      -- or there is none that must be
+      pub right_on : select_of (must_bit ws vs) n 1 k ≡ none → RightSelect (strip_of ws n) (strip_of vs m) k (from_on a)
+      right_on eb = (select_lacking (strip_of ws n) (strip_of vs m) (strip_le ws n) (strip_le vs m) k (must_found none eb), first)

@@ -1,13 +1,12 @@
 -- The waiting calls: their answers, their refusals in order, and when an answer is right. Assumes nothing.
-use Rattle.std.specs.Prelude.{ℕ, ◌≡◌, List, length}
+use Rattle.std.specs.Prelude.{ℕ, ◌≡◌, List, length, Option, Some, None, Result, Ok, Err}
 use Rattle.words.specs.declared.handle.Handle.{Handle}
+use Rattle.words.specs.declared.refusal.Refusal.{Refusal}
 use Rattle.words.specs.Strip.{strip_of}
 use Rattle.words.specs.Refusals.{number_of, Judged}
 use Rattle.pairs.specs.Calls.{pair_lines, pair_within_table}
-use Rattle.waiting.specs.declared.waiting.RankAnswer.{RankAnswer}
-use Rattle.waiting.specs.declared.waiting.RankAnswer.TheVariants as rank_answer
-use Rattle.waiting.specs.declared.waiting.SelectAnswer.{SelectAnswer}
-use Rattle.waiting.specs.declared.waiting.SelectAnswer.TheVariants as select_answer
+use Rattle.waiting.specs.declared.scan.Counts.{Counts}
+use Rattle.waiting.specs.declared.waiting.Places.{Places}
 use Rattle.waiting.specs.Outcomes.{RankRange, Earliest, Latest, SomeLacks, AllLack, NoneLacks}
 
 -- what a waiting count tells: the least and the most, or the number of a refusal
@@ -22,14 +21,18 @@ pub data SelectTold : Type 0 where
   unselected : ℕ → SelectTold
 
 -- the answers by their values or number
-abbrev pub rank_told_of : RankAnswer → RankTold
-rank_told_of (rank_answer.LeastMost a b) = least_most a b
-rank_told_of (rank_answer.Refused r) = unranked (number_of r)
+abbrev pub rank_told_of : Result Counts Refusal → RankTold
+rank_told_of (Ok n) = least_most n.least n.most
+rank_told_of (Err r) = unranked (number_of r)
 
-abbrev pub select_told_of : SelectAnswer → SelectTold
-select_told_of (select_answer.FromTo a b) = from_to a b
-select_told_of (select_answer.FromOn a) = from_on a
-select_told_of (select_answer.Refused r) = unselected (number_of r)
+-- from the earliest a on, to the latest where there is one
+abbrev pub places_told : ℕ → Option ℕ → SelectTold
+places_told a (Some b) = from_to a b
+places_told a None = from_on a
+
+abbrev pub select_told_of : Result Places Refusal → SelectTold
+select_told_of (Ok p) = places_told p.earliest p.latest
+select_told_of (Err r) = unselected (number_of r)
 
 -- an answer to a count that no check refuses: the least and the most over all outcomes
 abbrev pub RightRank : List ℕ → List ℕ → ℕ → RankTold → Type 0

@@ -5,4 +5,5 @@ mod scan;
 mod waiting;
 
 // Open to users: no `requires`, and a promise for every input.
-pub use waiting::{RankAnswer, SelectAnswer, waiting_rank, waiting_select};
+pub use scan::Counts;
+pub use waiting::{Places, waiting_rank, waiting_select};

@@ -3,10 +3,9 @@ use Rattle.std.proofs.Common.{◌≡◌, ℕ, ◌%◌, ◌<◌, ◌≤◌, Bool,
 use mathlib.Core.Option.{Option, some, none}
 use Rattle.words.specs.declared.handle.Handle.{Handle}
 use Rattle.words.specs.declared.refusal.Refusal.{Refusal}
-use Rattle.words.specs.declared.refusal.Verdict.{Verdict}
-use Rattle.words.specs.declared.refusal.Verdict.TheVariants.{Pass, Refuse}
+use Rattle.std.specs.Prelude.{Result, Ok, Err, IsErrAnd}
 use Rattle.words.specs.Strip.{cell, or_else, select}
-use Rattle.words.specs.Refusals.{number_of, Line, ◌⇒◌, judge, verdict_of, unless, Judged, refused, found}
+use Rattle.words.specs.Refusals.{number_of, Line, ◌⇒◌, judge, verdict_of, unless, Judged, Told, refused, told_of, found}
 use Rattle.words.specs.Handles.{block_bits, most_bits, allowed, good, words_of, strip_lines}
 use Rattle.words.specs.Calls.{value_line, below_line, within_line, absent_line, below_table, value_table}
 use Rattle.words.proofs.BoolLaws.{and_first, and_second, not_not}
@@ -22,12 +21,22 @@ judge_append (l ∷ ls) b = go l.applies (judge_append ls b)
     go true h = refl
     go false h = h
 
+-- what `?` passes on: the refusal that it met
+pub raised : {A : Type 0} (q : Result A Refusal) (r : Refusal) → IsErrAnd q (λ e. e ≡ r) → q ≡ Err r
+raised (Ok x) r h = absurd h
+raised (Err e) r h = ap Err h
+
 -- refused by the first table
-pub refused_first : (a b : List Line) (v : Verdict) (r : Refusal) → verdict_of v ≡ judge a → v ≡ Refuse r → verdict_of v ≡ judge (a ++ b)
+pub refused_first : (a b : List Line) (v : Result Unit Refusal) (r : Refusal) → verdict_of v ≡ judge a → v ≡ Err r → verdict_of v ≡ judge (a ++ b)
 refused_first a b v r e d = rw (judge_append, ← e, d) refl
 
+-- and passed on
+pub raised_first : (a b : List Line) (v q : Result Unit Refusal) (r : Refusal) → verdict_of v ≡ judge a → v ≡ Err r → IsErrAnd q (λ e. e ≡ r)
+    → verdict_of q ≡ judge (a ++ b)
+raised_first a b v q r e d h = ap verdict_of (raised q r h ∙ sym d) ∙ refused_first a b v r e d
+
 -- passed by the first table: the second decides
-pub passed_first : (a b : List Line) (v : Verdict) → verdict_of v ≡ judge a → v ≡ Pass → judge (a ++ b) ≡ judge b
+pub passed_first : (a b : List Line) (v : Result Unit Refusal) → verdict_of v ≡ judge a → v ≡ Ok tt → judge (a ++ b) ≡ judge b
 passed_first a b v e d = rw (judge_append, ← e, d) refl
 
 -- a table does not refuse and pass
@@ -39,18 +48,22 @@ pub same_some : (o : Option ℕ) (n m : ℕ) → o ≡ some n → o ≡ some m �
 same_some o n m a b = let h : ◌≡◌ {A = Option ℕ} (some n) (some m) = sym a ∙ b in cc
 
 -- a table by the verdict of a function that judged it
-pub judged_refuse : (t : List Line) (v : Verdict) (r : Refusal) → verdict_of v ≡ judge t → v ≡ Refuse r → judge t ≡ some (number_of r)
+pub judged_refuse : (t : List Line) (v : Result Unit Refusal) (r : Refusal) → verdict_of v ≡ judge t → v ≡ Err r → judge t ≡ some (number_of r)
 judged_refuse t v r e d = sym e ∙ ap verdict_of d
 
-pub judged_pass : (t : List Line) (v : Verdict) → verdict_of v ≡ judge t → v ≡ Pass → judge t ≡ none
+pub judged_pass : (t : List Line) (v : Result Unit Refusal) → verdict_of v ≡ judge t → v ≡ Ok tt → judge t ≡ none
 judged_pass t v e d = sym e ∙ ap verdict_of d
 
 -- what a call gives where its table refuses, and where it passes
-pub unless_refused : {A : Type 0} (t : List Line) (v : Verdict) (r : Refusal) (refuse : ℕ → A) (late : A) → verdict_of v ≡ judge t → v ≡ Refuse r
+pub unless_refused : {A : Type 0} (t : List Line) (v : Result Unit Refusal) (r : Refusal) (refuse : ℕ → A) (late : A) → verdict_of v ≡ judge t → v ≡ Err r
     → refuse (number_of r) ≡ unless (judge t) refuse late
 unless_refused t v r refuse late e d = ap (λ (o : Option ℕ). unless o refuse late) (sym (judged_refuse t v r e d))
 
-pub unless_passed : {A : Type 0} (t : List Line) (v : Verdict) (refuse : ℕ → A) (late : A) → verdict_of v ≡ judge t → v ≡ Pass
+pub told_refused : (t : List Line) (v : Result Unit Refusal) (q : Result ℕ Refusal) (r : Refusal) (late : Told) → verdict_of v ≡ judge t → v ≡ Err r
+    → IsErrAnd q (λ e. e ≡ r) → told_of q ≡ unless (judge t) refused late
+told_refused t v q r late e d h = ap told_of (raised q r h) ∙ unless_refused t v r refused late e d
+
+pub unless_passed : {A : Type 0} (t : List Line) (v : Result Unit Refusal) (refuse : ℕ → A) (late : A) → verdict_of v ≡ judge t → v ≡ Ok tt
     → late ≡ unless (judge t) refuse late
 unless_passed t v refuse late e d = ap (λ (o : Option ℕ). unless o refuse late) (sym (judged_pass t v e d))
 
@@ -64,13 +77,13 @@ judged_unique {A} t refuse Right x y one a b = go (judge t) refl
     go none e = one x y (a.late e) (b.late e)
 
 -- such an answer by the verdict of a function that judged the table
-module _ {A : Type 0} (t : List Line) (v : Verdict) (refuse : ℕ → A) (Right : A → Type 0) (e : verdict_of v ≡ judge t) where
-  pub right_refused : (r : Refusal) → v ≡ Refuse r → Judged t refuse Right (refuse (number_of r))
+module _ {A : Type 0} (t : List Line) (v : Result Unit Refusal) (refuse : ℕ → A) (Right : A → Type 0) (e : verdict_of v ≡ judge t) where
+  pub right_refused : (r : Refusal) → v ≡ Err r → Judged t refuse Right (refuse (number_of r))
   right_refused r d =
       let j : judge t ≡ some (number_of r) = judged_refuse t v r e d in
       record { early = (λ n f. let m : number_of r ≡ n = same_some (judge t) (number_of r) n j f in ap refuse m); late = (λ f. not_both j f) }
 
-  pub right_passed : (x : A) → v ≡ Pass → Right x → Judged t refuse Right x
+  pub right_passed : (x : A) → v ≡ Ok tt → Right x → Judged t refuse Right x
   right_passed x d h = record { early = (λ n f. not_both f (judged_pass t v e d)); late = (λ f. h) }
 
 -- no line of a table has the number 0

@@ -1,9 +1,8 @@
 -- The laws of `RangePut`, a list of words with some positions written: by one word stored, by ranges that meet, and what it does to the ones;
 -- and of a list whose elements become 0. Assumes nothing.
-use Rattle.std.proofs.Common.{◌≡◌, ℕ, ◌+◌, ◌-◌, ◌*◌, ◌/◌, ◌%◌, ◌<◌, ◌≤◌, ◌⊎◌, List, ◌++◌, length, get_or, drop, set, replicate, sym, refl, ap, ◌∙◌, subst₂, inl, inr, append-nil, zero-le, le_refl, arith, length-set, get_or-set_other, get_or-set_same}
+use Rattle.std.proofs.Common.{◌≡◌, ℕ, ◌+◌, ◌-◌, ◌*◌, ◌/◌, ◌%◌, ◌<◌, ◌≤◌, ◌⊎◌, List, ◌++◌, length, get_or, drop, set, replicate, sym, refl, ap, ◌∙◌, subst₂, inl, inr, append-nil, arith, length-set, get_or-set_other, get_or-set_same}
 use native.Mathlib.Decide.{ℕ_discrete}
 use lib.Seq.{drop-length}
-use borrow.Author.Fill.{fill_none, fill_more}
 use Rattle.words.specs.Bits.{bit, bit_at}
 use Rattle.words.specs.Working.{WordPut, RangePut}
 use Rattle.words.proofs.Sums.{lt_or}
@@ -83,30 +82,11 @@ position_put ws p b r h x =
     put_ends ws (set ws (p / 64) r) (64 * (p / 64) + p % 64) p (64 * (p / 64) + (p % 64 + 1)) (p + 1) b (omega arith) (omega arith)
     (word_put ws (p / 64) (p % 64) (p % 64 + 1) b r (omega arith) (omega arith) x)
 
--- the whole word k
-pub whole_put : (ws : List ℕ) (k b r : ℕ) → k < length ws → ((q : ℕ) → q < 64 → bit r q ≡ b) → RangePut ws (64 * k) (64 * (k + 1)) b (set ws k r)
-whole_put ws k b r h x =
-    put_ends ws (set ws k r) (64 * k + 0) (64 * k) (64 * k + 64) (64 * (k + 1)) b (omega arith) (omega arith)
-    (word_stored ws k 0 64 b r h (le_refl 64) (λ q l u. x q u) (λ q l o. absurd (outside q l o)))
-  where
-    outside : (q : ℕ) → q < 64 → (q < 0) ⊎ (64 ≤ q) → ⊥
-    outside q l (inl u) = omega arith
-    outside q l (inr u) = omega arith
-
 -- ---- a list whose elements become 0
 
 -- ys is xs with its first k elements made 0
 abbrev pub Zeroed : List ℕ → List ℕ → ℕ → Type 0
 Zeroed xs ys k = (k ≤ length xs) × (length ys ≡ length xs) × (ys ≡ replicate k 0 ++ drop k xs)
-
--- none yet
-pub zeroed_none : (xs : List ℕ) → Zeroed xs xs 0
-zeroed_none xs = (zero-le, refl, fill_none xs 0)
-
--- one more
-pub zeroed_more : (xs ys : List ℕ) (k : ℕ) → Zeroed xs ys k → k < length xs → Zeroed xs (set ys k 0) (k + 1)
-zeroed_more xs ys k z l =
-    (omega arith, length-set ys k 0 ∙ z.1, ap (λ (zs : List ℕ). set zs k 0) z.2 ∙ fill_more k 0 xs l)
 
 -- all
 pub zeroed_done : (xs ys : List ℕ) (k : ℕ) → Zeroed xs ys k → length xs ≤ k → ys ≡ replicate (length xs) 0

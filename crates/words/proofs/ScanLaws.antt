@@ -9,7 +9,7 @@ use Rattle.words.specs.Strip.{holds, successor_of, predecessor_of}
 use Rattle.words.specs.Working.{WordPut, Matched, FirstFrom, LastBefore}
 use Rattle.words.proofs.BoolLaws.{and_intro, and_first, and_second}
 use Rattle.words.proofs.Sums.{lt_or, rank_one}
-use Rattle.words.proofs.BitLaws.{bit_le, zero_bit, bit_shr, bit_high, bit_top}
+use Rattle.words.proofs.BitLaws.{bit_le, bit_shr, bit_high, bit_top}
 use Rattle.words.proofs.WordLaws.{holds_yes, holds_no, word_bit}
 use Rattle.words.proofs.SearchLaws.{least_at, least_none, greatest_at, greatest_none}
 
@@ -54,48 +54,9 @@ last_before_none f v i r h e =
 
 -- ---- from part to whole
 
--- two stretches that meet
-pub clear_join : (f : ℕ → ℕ) (v i m e : ℕ) → Clear f v i m → Clear f v m e → Clear f v i e
-clear_join f v i m e a b p l u h = go (lt_or p m)
-  where
-    go : (p < m) ⊎ (m ≤ p) → ⊥
-    go (inl q) = a p l q h
-    go (inr q) = b p q u h
-
--- the search from m on, where there is no v from i to m - 1
-pub onward_from : (f : ℕ → ℕ) (n v i m r : ℕ) → i ≤ m → Clear f v i m → FirstFrom f n v m r → FirstFrom f n v i r
-onward_from f n v i m r l h o =
-    record { start = omega (arith, o.start); within = o.within; clear = clear_join f v i m r h o.clear; hit = o.hit }
-
--- the search below n, then below m: the smaller of the answer and m, where the answer is a hit or n reaches m
-pub onward_upto : (f : ℕ → ℕ) (n v i a m r : ℕ) → i ≤ m → FirstFrom f n v i a → (a < n) ⊎ (m ≤ n) → r ≤ a → r ≤ m → (r < m → r ≡ a) → FirstFrom f m v i r
-onward_upto f n v i a m r l o w ra rm e =
-    record {
-      start = start (lt_or r m);
-      within = rm;
-      clear = (λ p b u. o.clear p b (omega arith));
-      hit = (λ u. ap f (e u) ∙ o.hit (below u w));
-    }
-  where
-    start : (r < m) ⊎ (m ≤ r) → i ≤ r
-    start (inl u) = omega (arith, e u, o.start)
-    start (inr u) = omega arith
-
-    below : r < m → (a < n) ⊎ (m ≤ n) → a < n
-    below u (inl k) = k
-    below u (inr k) = omega (arith, e u)
-
--- the search below m, where there is no v from m to i - 1
-pub back_from : (f : ℕ → ℕ) (v i m r : ℕ) → m ≤ i → Clear f v m i → LastBefore f v m r → LastBefore f v i r
-back_from f v i m r l h b = record { within = omega (arith, b.within); clear = clear_join f v r m i b.clear h; hit = b.hit }
-
 -- no v from i on
 pub onward_end : (f : ℕ → ℕ) (n v i : ℕ) → i ≤ n → Clear f v i n → FirstFrom f n v i n
 onward_end f n v i l h = record { start = l; within = le_refl n; clear = h; hit = (λ u. absurd (omega arith)) }
-
--- no v below i
-pub back_end : (f : ℕ → ℕ) (v i : ℕ) → Clear f v 0 i → LastBefore f v i 0
-back_end f v i h = record { within = zero-le; clear = h; hit = (λ q e. absurd (omega arith)) }
 
 -- ---- one word
 
@@ -188,25 +149,6 @@ marked_word ws j k v x s h =
     holding p b (yes d) = d
     holding p b (no d) = absurd (omega (arith, b, holds_no (bit (get_or ws j 0)) v p d))
 
--- with the bits below position i cleared
-marked_low : (f : ℕ → ℕ) (v a e s i x r : ℕ) → a + s ≡ i → Marked f v a a e x → WordPut x 0 s 0 r → Marked f v a i e r
-marked_low f v a e s i x r g m w =
-    record {
-      start = omega arith;
-      end = m.end;
-      above = (λ p l b. omega (arith, from p b (lt_or p s)));
-      below = (λ p l b. m.below p l (same p b));
-      held = (λ p l b. m.held p l (same p b));
-      every = (λ p l u b. w.over p (omega arith) ∙ m.every p (omega arith) u b);
-    }
-  where
-    from : (p : ℕ) → bit r p ≡ 1 → (p < s) ⊎ (s ≤ p) → s ≤ p
-    from p b (inl u) = absurd (omega (arith, w.inside p zero-le u))
-    from p b (inr u) = u
-
-    same : (p : ℕ) → bit r p ≡ 1 → bit x p ≡ 1
-    same p b = sym (w.over p (from p b (lt_or p s))) ∙ b
-
 -- with the bits from position i on cleared
 marked_high : (f : ℕ → ℕ) (v a e s i x r : ℕ) → a + s ≡ i → i ≤ e → Marked f v a a e x → WordPut x s 64 0 r → Marked f v a a i r
 marked_high f v a e s i x r g h m w =
@@ -223,12 +165,6 @@ marked_high f v a e s i x r g h m w =
     upto p l b (inl u) = u
     upto p l b (inr u) = absurd (omega (arith, w.inside p u l))
 
--- the word of position i, from i on
-pub marked_from : (ws : List ℕ) (v i x r : ℕ) → Matched (get_or ws (i / 64) 0) v x → WordPut x 0 (i % 64) 0 r
-    → Marked (bit_at ws) v (64 * (i / 64)) i (64 * (i / 64 + 1)) r
-marked_from ws v i x r h w =
-    marked_low (bit_at ws) v (64 * (i / 64)) (64 * (i / 64 + 1)) (i % 64) i x r (omega arith) (marked_word ws (i / 64) (i / 64 + 1) v x refl h) w
-
 -- the word of position i, below i
 pub marked_under : (ws : List ℕ) (v i x r : ℕ) → Matched (get_or ws (i / 64) 0) v x → WordPut x (i % 64) 64 0 r
     → Marked (bit_at ws) v (64 * (i / 64)) (64 * (i / 64)) i r
@@ -243,11 +179,9 @@ module _ (f : ℕ → ℕ) (v a i e x : ℕ) (m : Marked f v a i e x) where
       let s : a + (p - a) ≡ p = omega (arith, m.start) in
       m.every (p - a) (omega arith) (omega arith) (ap f s ∙ h)
 
-  -- the word 0: there is no v
-  pub marked_none : x ≡ 0 → Clear f v i e
-  marked_none z p l u h =
-      let b : bit x (p - a) ≡ 0 = ap (λ (n : ℕ). bit n (p - a)) z ∙ zero_bit (p - a) in
-      omega (arith, marked_at p l u h)
+  -- the word has no ones: there is no v
+  pub marked_none : Clear (bit x) 1 0 64 → Clear f v i e
+  marked_none z p l u h = z (p - a) zero-le (omega (arith, m.start, m.end)) (marked_at p l u h)
 
   -- its lowest one: the first v
   pub marked_first : (r : ℕ) → r < 64 → FirstFrom (bit x) 64 1 0 r → FirstFrom f e v i (a + r)

@@ -1,9 +1,9 @@
 -- The laws of a written word, of the bits that hold a value, and of a list of words as one list of bits. Assumes nothing.
-use Rattle.std.proofs.Common.{◌≡◌, ℕ, ◌+◌, ◌-◌, ◌*◌, ◌/◌, ◌%◌, ◌^◌, ◌<◌, ◌≤◌, cond, eqb, ◌⊎◌, List, length, get_or, take, drop, sym, ap, ◌∙◌, ap₂, inl, inr, one-mul, arith, eq-eqb, ne_eqb}
+use Rattle.std.proofs.Common.{◌≡◌, ℕ, zero, suc, ◌+◌, ◌-◌, ◌*◌, ◌/◌, ◌%◌, ◌^◌, ◌<◌, ◌≤◌, Bool, true, false, cond, eqb, ◌⊎◌, List, length, get_or, take, drop, sym, refl, ap, ◌∙◌, ap₂, inl, inr, zero-le, le_refl, length-take, length-drop, one-mul, arith, eq-eqb, ne_eqb}
 use lib.ListN.{get_or-eq_default}
 use lib.Bits.{bit_and, bit_or, bit_xor, differ}
 use Rattle.words.specs.Bits.{bit, bit_at, ones}
-use Rattle.words.specs.Strip.{holds}
+use Rattle.words.specs.Strip.{as_bit, holds}
 use Rattle.words.specs.Working.{WordPut, Matched}
 use Rattle.words.proofs.Sums.{lt_or, sum_more, sum_range, part_ones, part_at_lem}
 use Rattle.words.proofs.BitLaws.{bit_lt, bit_le, zero_bit, bit_of_xor, bit_of_and, bit_of_or, bit_not, bit_high, differ_one, differ_zero, mask, mask_in, mask_below, mask_above, mask_lt, mask_one}
@@ -14,6 +14,17 @@ holds_yes f v p e = simp (eq-eqb (f p) v e)
 
 pub holds_no : (f : ℕ → ℕ) (v p : ℕ) → (f p ≡ v → ⊥) → holds f v p ≡ 0
 holds_no f v p n = simp (ne_eqb (f p) v n)
+
+-- a value that is a bit, as a truth value and back
+pub as_bit_of : (v : ℕ) → v ≤ 1 → as_bit (eqb v 1) ≡ v
+as_bit_of zero h = refl
+as_bit_of (suc zero) h = refl
+as_bit_of (suc (suc v)) h = absurd (omega arith)
+
+-- it is at most 1
+pub as_bit_le : (b : Bool) → as_bit b ≤ 1
+as_bit_le true = le_refl 1
+as_bit_le false = zero-le
 
 -- for bits: v = 1 is the bit itself, v = 0 its opposite
 pub holds_bit : (f : ℕ → ℕ) (v p : ℕ) → f p ≤ 1 → v ≤ 1 → holds f v p ≡ (f p * v) + (1 - f p) * (1 - v)
@@ -100,10 +111,6 @@ written_one x i b r n w l =
     only : (i : ℕ) → i + 1 - i ≡ 1
     only i = omega arith
 
--- ---- the word whose ones are the bits that equal v
-pub matched_one : (x : ℕ) → Matched x 1 x
-matched_one x p l = sym (holds_one (bit x) p (bit_le x p))
-
 pub matched_zero : (x : ℕ) → x < 2 ^ 64 → Matched x 0 ((2 ^ 64 - 1) - x)
 matched_zero x h p l = bit_not 64 x p h l ∙ sym (holds_zero (bit x) p (bit_le x p))
 
@@ -139,3 +146,13 @@ part_bit ws k n p h =
 -- position p of block b, whose words are eight
 pub block_bit : (ws : List ℕ) (b n p : ℕ) → n ≡ 8 → p < 512 → bit_at (take n (drop (8 * b) ws)) p ≡ bit_at ws (512 * b + p)
 block_bit ws b n p e h = part_bit ws (8 * b) n p (omega arith) ∙ ap (bit_at ws) (omega arith)
+
+-- the ones of the words from word `from` on, up to word `to`
+pub slice_ones : (ws : List ℕ) (from to : ℕ) → from ≤ to → to ≤ length ws
+    → let vs = take (to - from) (drop from ws) in
+    ones (bit_at ws) (64 * from) + ones (bit_at vs) (64 * length vs) ≡ ones (bit_at ws) (64 * to)
+slice_ones ws from to l u =
+    let n : length (take (to - from) (drop from ws)) ≡ to - from = rw (length-take, length-drop) (omega arith) in
+    let m : 64 * from + 64 * (to - from) ≡ 64 * to = omega arith in
+    rw n (sym (part_ones (bit_at ws) (bit_at (take (to - from) (drop from ws))) (64 * from) (64 * (to - from)) (64 * (to - from))
+    (λ p h. part_bit ws from (to - from) p h) (le_refl (64 * (to - from)))) ∙ ap (ones (bit_at ws)) m)

@@ -1,12 +1,8 @@
 -- The refusals, their numbers, ordered tables of them, and what a call tells that changes no strip. Assumes nothing.
-use Rattle.std.specs.Prelude.{◌≡◌, ℕ, ◌+◌, ◌^◌, ◌<◌, Bool, cond, List, [], ◌∷◌}
+use Rattle.std.specs.Prelude.{◌≡◌, ℕ, ◌+◌, ◌^◌, ◌<◌, Bool, cond, List, [], ◌∷◌, Result, Ok, Err}
 use Rattle.std.proofs.Math.Option.{Option, some, none}
 use Rattle.words.specs.declared.refusal.Refusal.{Refusal}
 use Rattle.words.specs.declared.refusal.Refusal.TheVariants as refusal
-use Rattle.words.specs.declared.refusal.Verdict.{Verdict}
-use Rattle.words.specs.declared.refusal.Verdict.TheVariants.{Pass, Refuse}
-use Rattle.words.specs.declared.refusal.Answer.{Answer}
-use Rattle.words.specs.declared.refusal.Answer.TheVariants.{Value, Refused}
 
 -- the number of a refusal
 abbrev pub number_of : Refusal → ℕ
@@ -44,9 +40,9 @@ judge [] = none
 judge (l ∷ ls) = cond l.applies (some l.number) (judge ls)
 
 -- what the checks of a call say, by its number
-abbrev pub verdict_of : Verdict → Option ℕ
-verdict_of Pass = none
-verdict_of (Refuse r) = some (number_of r)
+abbrev pub verdict_of : Result Unit Refusal → Option ℕ
+verdict_of (Ok x) = none
+verdict_of (Err r) = some (number_of r)
 
 -- `late`, or what a refusal of that number gives
 abbrev pub unless : {A : Type 0} → Option ℕ → (ℕ → A) → A → A
@@ -64,9 +60,9 @@ pub data Told : Type 0 where
   refused : ℕ → Told
 
 -- an answer by its value or number
-abbrev pub told_of : Answer → Told
-told_of (Value x) = value x
-told_of (Refused r) = refused (number_of r)
+abbrev pub told_of : Result ℕ Refusal → Told
+told_of (Ok x) = value x
+told_of (Err r) = refused (number_of r)
 
 -- a position; 6 where there is none
 abbrev pub found : Option ℕ → Told

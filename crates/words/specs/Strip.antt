@@ -7,6 +7,10 @@ use Rattle.words.specs.Bits.{bit_at, ones, list_of}
 abbrev pub cell : List ℕ → ℕ → ℕ
 cell s p = slice_index s p
 
+-- a value that is a bit, as a number
+abbrev pub as_bit : Bool → ℕ
+as_bit b = cond b 1 0
+
 -- v neither 0 nor 1: no cell holds it
 abbrev pub bad_value : ℕ → Bool
 bad_value v = nat_lt 1 v

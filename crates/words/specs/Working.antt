@@ -1,9 +1,9 @@
 -- Derived, for inner contracts: relations that say what a function on words gives. Laws in proofs/ tie them to the definitions.
 -- Assumes nothing.
-use Rattle.std.specs.Prelude.{◌≡◌, ℕ, suc, ◌<◌, ◌≤◌, cond, List, length, ◌≢◌, nat_le, slice_index}
+use Rattle.std.specs.Prelude.{◌≡◌, ℕ, suc, ◌<◌, ◌≤◌, cond, List, [], length, ◌≢◌, nat_le, slice_index, slice_index_or, Option, MatchOption}
 use Rattle.words.specs.Bits.{bit, bit_at}
 use Rattle.words.specs.Strip.{holds}
-use Rattle.words.specs.Words.{byte_of, select_in}
+use Rattle.words.specs.Words.{select_in}
 
 -- r is the word x with the bits from a to e - 1 made b
 pub record WordPut (x a e b r : ℕ) : Type 0 where
@@ -26,14 +26,10 @@ Matched x v r = (p : ℕ) → p < 64 → bit r p ≡ holds (bit x) v p
 abbrev pub at_most : (ℕ → ℕ) → ℕ → ℕ → ℕ
 at_most P k j = cond (nat_le (P j) k) 1 0
 
--- byte k of r is select of 1 in the byte b, for each k below 8
-abbrev pub SelectBytes : ℕ → ℕ → Type 0
-SelectBytes b r = (k : ℕ) → k < 8 → byte_of r k ≡ select_in 8 b 1 k
-
--- a right table: 256 numbers, of which number b has select in the byte b
-pub record SelectTable (xs : List ℕ) : Type 0 where
-  pub long : length xs ≡ 256
-  pub right : (b : ℕ) → b < 256 → SelectBytes b (slice_index xs b)
+-- a right table: 256 rows, of which entry k of row b is select of 1 in the byte b
+pub record SelectTable (rows : List (List ℕ)) : Type 0 where
+  pub long : length rows ≡ 256
+  pub right : (b k : ℕ) → b < 256 → k < 8 → slice_index (slice_index_or rows b []) k ≡ select_in 8 b 1 k
 
 -- r is the smallest position at or past i, below n, holding v, or n where there is none
 pub record FirstFrom (f : ℕ → ℕ) (n v i r : ℕ) : Type 0 where
@@ -47,3 +43,11 @@ pub record LastBefore (f : ℕ → ℕ) (v i r : ℕ) : Type 0 where
   pub within : r ≤ i
   pub clear : (p : ℕ) → r ≤ p → p < i → f p ≢ v
   pub hit : (q : ℕ) → r ≡ suc q → f q ≡ v
+
+-- o is the smallest position at or past i, below n, holding v, if there is one
+abbrev pub NextAt : (f : ℕ → ℕ) (n v i : ℕ) → Option ℕ → Type 0
+NextAt f n v i o = MatchOption o (FirstFrom f n v i n) (λ r. FirstFrom f n v i r × (r < n))
+
+-- o is the largest position below i holding v, if there is one
+abbrev pub LastAt : (f : ℕ → ℕ) (v i : ℕ) → Option ℕ → Type 0
+LastAt f v i o = MatchOption o (LastBefore f v i 0) (λ r. LastBefore f v i (suc r))

@@ -1,7 +1,7 @@
 // Bits of one word, and the number of a value among bits.
 ghost use Rattle.std.specs.Prelude.{◌≡◌, ◌+◌, ◌-◌, ◌^◌, ◌<◌, ◌≤◌};
 ghost use Rattle.words.specs.Bits.{bit, ones};
-ghost use Rattle.words.specs.Strip.{of_value};
+ghost use Rattle.words.specs.Strip.{as_bit, of_value};
 ghost use Rattle.words.specs.Working.{WordPut, Matched};
 
 // Bit i of a word.
@@ -27,7 +27,7 @@ pub fn low_mask(i: usize) -> u64
 pub fn ones_of(x: u64) -> usize
     ensures { result ≡ ones (bit x) 64 }
 {
-    u64::count_ones(x) as usize
+    x.count_ones() as usize
 }
 
 // The word with bit i flipped.
@@ -38,41 +38,35 @@ pub fn flip_bit(x: u64, i: usize) -> u64
     x ^ (1u64 << i)
 }
 
-// The word with the bits from a to e - 1 set for v = 1, cleared for v = 0.
-pub fn put_range(x: u64, a: usize, e: usize, v: u64) -> u64
-    requires { (a ≤ e) × (e ≤ 64) × (v ≤ 1) }
-    ensures { WordPut x a e v result }
+// The word with the bits from a to e - 1 set to v.
+pub fn put_range(x: u64, a: usize, e: usize, v: bool) -> u64
+    requires { (a ≤ e) × (e ≤ 64) }
+    ensures { WordPut x a e (as_bit v) result }
 {
     let mask = low_mask(e) - low_mask(a);
-    if v == 1 { x | mask } else { x & !mask }
+    if v { x | mask } else { x & !mask }
 }
 
-// The word with bit i set for v = 1, cleared for v = 0.
-pub fn put_bit(x: u64, i: usize, v: u64) -> u64
-    requires { (i < 64) × (v ≤ 1) }
-    ensures { WordPut x i (i + 1) v result }
+// The word with bit i set to v.
+// Kept: beside `put_range`, which makes two masks and tests each for the whole word.
+pub fn put_bit(x: u64, i: usize, v: bool) -> u64
+    requires { i < 64 }
+    ensures { WordPut x i (i + 1) (as_bit v) result }
 {
     let mask = 1u64 << i;
-    if v == 1 { x | mask } else { x & !mask }
+    if v { x | mask } else { x & !mask }
 }
 
 // The word whose ones are the bits of x that equal v.
-pub fn matches(x: u64, v: u64) -> u64
-    requires { v ≤ 1 }
-    ensures { Matched x v result }
+pub fn matches(x: u64, v: bool) -> u64
+    ensures { Matched x (as_bit v) result }
 {
-    if v == 1 { x } else { !x }
+    if v { x } else { !x }
 }
 
 // The number of v, 0 or 1, among n bits of which `ones` are ones; no zeros where there are more ones than bits.
 pub fn of_value(v: u64, n: usize, ones: usize) -> usize
     ensures { result ≡ of_value v n ones }
 {
-    if v == 1 {
-        return ones;
-    }
-    if n < ones {
-        return 0;
-    }
-    n - ones
+    if v == 1 { ones } else { n.saturating_sub(ones) }
 }

@@ -1,22 +1,26 @@
 // A block: 512 bits, eight words.
-ghost use Rattle.std.specs.Prelude.{◌≡◌, ◌-◌, ◌*◌, ◌^◌, ◌≤◌, min, length};
+ghost use Rattle.std.specs.Prelude.{◌≡◌, ◌+◌, ◌-◌, ◌*◌, ◌^◌, ◌≤◌, min, length, take, drop};
 ghost use Rattle.words.specs.Bits.{bit, bit_at, ones};
-ghost use Rattle.words.specs.Strip.{rank_of, select_of};
+ghost use Rattle.words.specs.Strip.{as_bit, rank_of, select_of};
 ghost use Rattle.words.specs.Words.{place_in};
 
 use super::bits::{low_mask, matches, ones_of};
 use super::select::select_value;
+use super::span::words_ones;
+
+// Block b of a list of words.
+pub fn block_at(words: &[u64], b: usize) -> &[u64; 8]
+    requires { 8 * b + 8 ≤ length words.now }
+    ensures { result.now ≡ take 8 (drop (8 * b) words.now) }
+{
+    &words.as_chunks::<8>().0[b]
+}
 
 // The ones of a block.
-pub fn block_ones(block: &[u64]) -> usize
-    requires { length block.now ≡ 8 }
+pub fn block_ones(block: &[u64; 8]) -> usize
     ensures { result ≡ ones (bit_at block.now) 512 }
 {
-    let mut sum: usize = 0;
-    for j in 0..8 {
-        sum += ones_of(block[j]);
-    }
-    sum
+    words_ones(block)
 }
 
 // The mask of those bits of word j that lie below position m.
@@ -31,8 +35,8 @@ fn word_mask(m: usize, j: usize) -> u64
 }
 
 // The ones among the first m bits of a block: of all eight words, each masked, so that the loop takes eight turns whatever m is.
-pub fn block_rank(block: &[u64], m: usize) -> usize
-    requires { (length block.now ≡ 8) × (m ≤ 512) }
+pub fn block_rank(block: &[u64; 8], m: usize) -> usize
+    requires { m ≤ 512 }
     ensures { result ≡ ones (bit_at block.now) m }
 {
     let mut sum: usize = 0;
@@ -43,18 +47,16 @@ pub fn block_rank(block: &[u64], m: usize) -> usize
 }
 
 // The number of v in a word.
-fn word_count(x: u64, v: u64) -> usize
-    requires { v ≤ 1 }
-    ensures { (result ≤ 64) × (result ≡ rank_of (bit x) v 64) }
+fn word_count(x: u64, v: bool) -> usize
+    ensures { (result ≤ 64) × (result ≡ rank_of (bit x) (as_bit v) 64) }
 {
     ones_of(matches(x, v))
 }
 
 // The position of the k-th v in a block, k from 0, or 512 where it has too few: the word that holds it, then the place there.
 // The word is found by the running counts of v, none of which waits for a comparison.
-pub fn block_select(block: &[u64], v: u64, k: usize) -> usize
-    requires { (length block.now ≡ 8) × (v ≤ 1) }
-    ensures { result ≡ place_in 512 (select_of (bit_at block.now) 512 v k) }
+pub fn block_select(block: &[u64; 8], v: bool, k: usize) -> usize
+    ensures { result ≡ place_in 512 (select_of (bit_at block.now) 512 (as_bit v) k) }
 {
     let mut sum: usize = 0;
     let mut passed: usize = 0;

@@ -1,15 +1,16 @@
 // Positions of a list of words written: one, a span, all.
-ghost use Rattle.std.specs.Prelude.{◌≡◌, ◌+◌, ◌-◌, ◌*◌, ◌<◌, ◌≤◌, length, replicate};
+ghost use Rattle.std.specs.Prelude.{◌≡◌, ◌+◌, ◌-◌, ◌*◌, ◌<◌, ◌≤◌, length};
 ghost use Rattle.words.specs.Bits.{bit_at};
+ghost use Rattle.words.specs.Strip.{as_bit};
 ghost use Rattle.words.specs.Handles.{most_bits, words_of};
 ghost use Rattle.words.specs.Working.{RangePut};
 
 use super::bits::{bit_of, flip_bit, put_bit, put_range};
 
 // Makes position p of the words v.
-pub fn put_position(words: &mut [u64], p: usize, v: u64)
-    requires { (p < 64 * length words.old) × (v ≤ 1) }
-    ensures { RangePut words.old p (p + 1) v words.new }
+pub fn put_position(words: &mut [u64], p: usize, v: bool)
+    requires { p < 64 * length words.old }
+    ensures { RangePut words.old p (p + 1) (as_bit v) words.new }
 {
     words[p / 64] = put_bit(words[p / 64], p % 64, v);
 }
@@ -26,30 +27,25 @@ pub fn flip_position(words: &mut [u64], p: usize) -> u64
 }
 
 // Makes the bits from i to j - 1 of word k v.
-fn put_in_word(words: &mut [u64], k: usize, i: usize, j: usize, v: u64)
-    requires { (k < length words.old) × (i ≤ j) × (j ≤ 64) × (v ≤ 1) }
-    ensures { RangePut words.old (64 * k + i) (64 * k + j) v words.new }
+fn put_in_word(words: &mut [u64], k: usize, i: usize, j: usize, v: bool)
+    requires { (k < length words.old) × (i ≤ j) × (j ≤ 64) }
+    ensures { RangePut words.old (64 * k + i) (64 * k + j) (as_bit v) words.new }
 {
     words[k] = put_range(words[k], i, j, v);
 }
 
 // Makes all bits of the words from word `from` to word `to` - 1 v.
-fn fill_words(words: &mut [u64], from: usize, to: usize, v: u64)
-    requires { (from ≤ to) × (to ≤ length words.old) × (v ≤ 1) }
-    ensures { RangePut words.old (64 * from) (64 * to) v words.new }
+fn fill_words(words: &mut [u64], from: usize, to: usize, v: bool)
+    requires { (from ≤ to) × (to ≤ length words.old) }
+    ensures { RangePut words.old (64 * from) (64 * to) (as_bit v) words.new }
 {
-    let x = put_range(0, 0, 64, v);
-    let mut k = from;
-    while k < to {
-        words[k] = x;
-        k += 1;
-    }
+    words[from..to].fill(put_range(0, 0, 64, v));
 }
 
 // Makes the positions from a to e - 1 of the words v.
-pub fn put_positions(words: &mut [u64], a: usize, e: usize, v: u64)
-    requires { (a ≤ e) × (e ≤ 64 * length words.old) × (v ≤ 1) × (length words.old ≤ words_of most_bits) }
-    ensures { RangePut words.old a e v words.new }
+pub fn put_positions(words: &mut [u64], a: usize, e: usize, v: bool)
+    requires { (a ≤ e) × (e ≤ 64 * length words.old) × (length words.old ≤ words_of most_bits) }
+    ensures { RangePut words.old a e (as_bit v) words.new }
 {
     if a == e {
         return;
@@ -65,15 +61,4 @@ pub fn put_positions(words: &mut [u64], a: usize, e: usize, v: u64)
     put_in_word(words, first, i, 64, v);
     fill_words(words, first + 1, last, v);
     put_in_word(words, last, 0, j, v);
-}
-
-// Makes all words 0.
-pub fn zero_words(words: &mut [u64])
-    ensures { words.new ≡ replicate (length words.old) 0 }
-{
-    let mut k = 0;
-    while k < words.len() {
-        words[k] = 0;
-        k += 1;
-    }
 }

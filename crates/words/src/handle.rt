@@ -3,7 +3,7 @@ ghost use Rattle.std.specs.Prelude.{◌≡◌};
 ghost use Rattle.words.specs.Refusals.{judge, verdict_of};
 ghost use Rattle.words.specs.Handles.{handle as handle_with, strip_lines, allowed as allowed_of};
 
-use super::refusal::{Refusal, Verdict};
+use super::refusal::Refusal;
 
 // A block, and the step of the capacity.
 pub const BLOCK_BITS: usize = 512;
@@ -11,7 +11,7 @@ pub const BLOCK_BITS: usize = 512;
 pub const MOST_BITS: usize = 134217728;
 
 // A strip's capacity, length and total, its number of ones. The words lie with the caller.
-#[derive(Clone, Copy)]
+#[derive(Clone, Copy, Debug, PartialEq, Eq, Hash)]
 pub struct Handle {
     pub capacity: usize,
     pub length: usize,
@@ -34,38 +34,24 @@ impl Handle {
 pub fn allowed(capacity: usize) -> bool
     ensures { result ≡ allowed_of capacity }
 {
-    if capacity % BLOCK_BITS != 0 {
-        return false;
-    }
-    if capacity < BLOCK_BITS {
-        return false;
-    }
-    capacity <= MOST_BITS
+    capacity % BLOCK_BITS == 0 && BLOCK_BITS <= capacity && capacity <= MOST_BITS
 }
 
 // `counted` of a call that takes no counters.
 pub const UNTAKEN: bool = true;
 
 // The checks 1, 2 and 3. `words` is the number of words lent; `counted` says that the counters are right in number, or not taken.
-pub fn check_strip(h: Handle, words: usize, counted: bool) -> Verdict
+pub fn check_strip(h: Handle, words: usize, counted: bool) -> Result<(), Refusal>
     ensures { verdict_of result ≡ judge (strip_lines h words counted) }
 {
-    let capacity = h.capacity;
-    let length = h.length;
-    if !allowed(capacity) {
-        return Verdict::Refuse(Refusal::BadHandle);
+    if !allowed(h.capacity) || h.capacity < h.length || h.length < h.total {
+        return Err(Refusal::BadHandle);
     }
-    if capacity < length {
-        return Verdict::Refuse(Refusal::BadHandle);
-    }
-    if length < h.total {
-        return Verdict::Refuse(Refusal::BadHandle);
-    }
-    if words != capacity / 64 {
-        return Verdict::Refuse(Refusal::WordCount);
+    if words != h.capacity / 64 {
+        return Err(Refusal::WordCount);
     }
     if !counted {
-        return Verdict::Refuse(Refusal::CounterCount);
+        return Err(Refusal::CounterCount);
     }
-    Verdict::Pass
+    Ok(())
 }

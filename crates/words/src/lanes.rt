@@ -8,9 +8,9 @@ ghost use Rattle.words.specs.Working.{at_most};
 pub fn lane_product(x: u64) -> u64
     ensures { result ≡ (x * 0x0101_0101_0101_0101) % 2 ^ 64 }
 {
-    let y = std::num::wrapping_add_u64(x, x << 8);
-    let z = std::num::wrapping_add_u64(y, y << 16);
-    std::num::wrapping_add_u64(z, z << 32)
+    let y = x.wrapping_add(x << 8);
+    let z = y.wrapping_add(y << 16);
+    z.wrapping_add(z << 32)
 }
 
 // The eight byte counts: in each lane the ones of that byte of x.

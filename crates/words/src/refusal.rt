@@ -1,12 +1,12 @@
-// Refusals, the verdict of a call's checks, and the answer of a call that changes no strip.
+// Refusals, their numbers, and an answer as one number.
 ghost use Rattle.std.specs.Prelude.{◌≡◌, ◌<◌};
 ghost use Rattle.words.specs.Refusals.{number_of, told_of, coded as coded_of};
 
 // Why a call is refused, in the order of the numbers 1 to 18.
-#[derive(Clone, Copy)]
+#[derive(Clone, Copy, Debug, PartialEq, Eq, Hash)]
 pub enum Refusal {
     // capacity not allowed, length above capacity, or total above length
-    BadHandle,
+    BadHandle = 1,
     // words not exactly capacity / 64
     WordCount,
     // counters not exactly the node total times 72
@@ -43,52 +43,21 @@ pub enum Refusal {
     Conflict,
 }
 
-// What a call's checks say.
-#[derive(Clone, Copy)]
-pub enum Verdict {
-    Pass,
-    Refuse(Refusal),
-}
-
-// What a call answers that changes no strip: a value, or its refusal.
-#[derive(Clone, Copy)]
-pub enum Answer {
-    Value(u64),
-    Refused(Refusal),
-}
-
 // The number of a refusal.
-pub fn number(r: Refusal) -> u64
-    ensures { (result ≡ number_of r) × (result < 100) }
-{
-    match r {
-        Refusal::BadHandle => 1,
-        Refusal::WordCount => 2,
-        Refusal::CounterCount => 3,
-        Refusal::Position => 4,
-        Refusal::Span => 5,
-        Refusal::NotFound => 6,
-        Refusal::Full => 7,
-        Refusal::BadValue => 8,
-        Refusal::Unfit => 9,
-        Refusal::Unsound => 10,
-        Refusal::BadLabel => 11,
-        Refusal::LabelPresent => 12,
-        Refusal::NoRoom => 13,
-        Refusal::LabelAbsent => 14,
-        Refusal::WrongRow => 15,
-        Refusal::Unequal => 16,
-        Refusal::BadWindow => 17,
-        Refusal::Conflict => 18,
+impl From<Refusal> for u64 {
+    ghost from_gives = { λ r n. (n ≡ number_of r) × (n < 100) };
+
+    fn from(r: Refusal) -> u64 {
+        r as u64
     }
 }
 
 // An answer as one number: the value, or 2^32 plus the refusal's number.
-pub fn coded(a: Answer) -> u64
+pub fn coded(a: Result<u64, Refusal>) -> u64
     ensures { result ≡ coded_of (told_of a) }
 {
     match a {
-        Answer::Value(x) => x,
-        Answer::Refused(r) => 4294967296 + number(r),
+        Ok(x) => x,
+        Err(r) => 4294967296 + u64::from(r),
     }
 }

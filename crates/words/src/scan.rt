@@ -1,93 +1,86 @@
 // The nearest position that holds a value, on either side, over a list of words.
-ghost use Rattle.std.specs.Prelude.{◌≡◌, ◌+◌, ◌*◌, ◌<◌, ◌≤◌, length, ◌≢◌};
+ghost use Rattle.std.specs.Prelude.{◌*◌, ◌≤◌, length};
 ghost use Rattle.words.specs.Bits.{bit, bit_at};
+ghost use Rattle.words.specs.Strip.{as_bit};
 ghost use Rattle.words.specs.Handles.{most_bits, words_of};
-ghost use Rattle.words.specs.Working.{FirstFrom, LastBefore};
+ghost use Rattle.words.specs.Working.{NextAt, LastAt};
 
 use super::bits::{matches, put_range};
 
-// The lowest one of a word that has one.
-fn lowest_one(x: u64) -> usize
-    requires { x ≢ 0 }
-    ensures { (result < 64) × FirstFrom (bit x) 64 1 0 result }
+// The lowest one of a word.
+fn lowest_one(x: u64) -> Option<usize>
+    ensures { NextAt (bit x) 64 1 0 result }
 {
-    u64::trailing_zeros(x) as usize
-}
-
-// One past the highest one of a word that has one.
-fn past_highest_one(x: u64) -> usize
-    requires { x ≢ 0 }
-    ensures { (0 < result) × LastBefore (bit x) 1 64 result }
-{
-    64 - (u64::leading_zeros(x) as usize)
-}
-
-// The smallest position in the words from word `from` to word `to` - 1 that holds v, or the end of these words.
-fn first_in_words(words: &[u64], from: usize, to: usize, v: u64) -> usize
-    requires { (from ≤ to) × (to ≤ length words.now) × (to ≤ words_of most_bits) × (v ≤ 1) }
-    ensures { FirstFrom (bit_at words.now) (64 * to) v (64 * from) result }
-{
-    let mut j = from;
-    while j < to {
-        let x = matches(words[j], v);
-        if x != 0 {
-            return 64 * j + lowest_one(x);
-        }
-        j += 1;
+    if x == 0 {
+        return None;
     }
-    64 * to
+    Some(x.trailing_zeros() as usize)
 }
 
-// One past the largest position in the words below word `to` that holds v, or 0.
-fn last_in_words(words: &[u64], to: usize, v: u64) -> usize
-    requires { (to ≤ length words.now) × (to ≤ words_of most_bits) × (v ≤ 1) }
-    ensures { LastBefore (bit_at words.now) v (64 * to) result }
+// The highest one of a word.
+fn highest_one(x: u64) -> Option<usize>
+    ensures { LastAt (bit x) 1 64 result }
 {
-    let mut j = to;
-    while 0 < j {
-        let x = matches(words[j - 1], v);
-        if x != 0 {
-            return 64 * (j - 1) + past_highest_one(x);
-        }
-        j -= 1;
+    if x == 0 {
+        return None;
     }
-    0
+    Some(63 - x.leading_zeros() as usize)
 }
 
-// The smaller of two numbers.
-fn smaller(a: usize, b: usize) -> usize
-    ensures { (result ≤ a) × (result ≤ b) × ((result < b → result ≡ a)) }
+// The smallest position in the words from word `from` to word `to` - 1 that holds v.
+fn first_in_words(words: &[u64], from: usize, to: usize, v: bool) -> Option<usize>
+    requires { (from ≤ to) × (to ≤ length words.now) × (to ≤ words_of most_bits) }
+    ensures { NextAt (bit_at words.now) (64 * to) (as_bit v) (64 * from) result }
 {
-    if a < b { a } else { b }
+    for j in from..to {
+        if let Some(i) = lowest_one(matches(words[j], v)) {
+            return Some(64 * j + i);
+        }
+    }
+    None
 }
 
-// The smallest position at or past i, below n, that holds v, or n.
-pub fn first_from(words: &[u64], n: usize, v: u64, i: usize) -> usize
-    requires { (i ≤ n) × (n ≤ 64 * length words.now) × (n ≤ most_bits) × (v ≤ 1) }
-    ensures { FirstFrom (bit_at words.now) n v i result }
+// The largest position in the words below word `to` that holds v.
+fn last_in_words(words: &[u64], to: usize, v: bool) -> Option<usize>
+    requires { (to ≤ length words.now) × (to ≤ words_of most_bits) }
+    ensures { LastAt (bit_at words.now) (as_bit v) (64 * to) result }
+{
+    for j in (0..to).rev() {
+        if let Some(i) = highest_one(matches(words[j], v)) {
+            return Some(64 * j + i);
+        }
+    }
+    None
+}
+
+// The smallest position at or past i, below n, that holds v.
+pub fn first_from(words: &[u64], n: usize, v: bool, i: usize) -> Option<usize>
+    requires { (i ≤ n) × (n ≤ 64 * length words.now) × (n ≤ most_bits) }
+    ensures { NextAt (bit_at words.now) n (as_bit v) i result }
 {
     if i == n {
-        return n;
+        return None;
     }
     let j = i / 64;
-    let x = put_range(matches(words[j], v), 0, i % 64, 0);
-    if x != 0 {
-        return smaller(64 * j + lowest_one(x), n);
-    }
-    smaller(first_in_words(words, j + 1, (n + 63) / 64, v), n)
+    let x = put_range(matches(words[j], v), 0, i % 64, false);
+    let p = match lowest_one(x) {
+        Some(low) => 64 * j + low,
+        None => first_in_words(words, j + 1, (n + 63) / 64, v)?,
+    };
+    if p < n { Some(p) } else { None }
 }
 
-// One past the largest position below i that holds v, or 0.
-pub fn last_before(words: &[u64], v: u64, i: usize) -> usize
-    requires { (i ≤ 64 * length words.now) × (i ≤ most_bits) × (v ≤ 1) }
-    ensures { LastBefore (bit_at words.now) v i result }
+// The largest position below i that holds v.
+pub fn last_before(words: &[u64], v: bool, i: usize) -> Option<usize>
+    requires { (i ≤ 64 * length words.now) × (i ≤ most_bits) }
+    ensures { LastAt (bit_at words.now) (as_bit v) i result }
 {
     let j = i / 64;
     let s = i % 64;
     if s != 0 {
-        let x = put_range(matches(words[j], v), s, 64, 0);
-        if x != 0 {
-            return 64 * j + past_highest_one(x);
+        let x = put_range(matches(words[j], v), s, 64, false);
+        if let Some(high) = highest_one(x) {
+            return Some(64 * j + high);
         }
     }
     last_in_words(words, j, v)

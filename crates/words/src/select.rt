@@ -1,5 +1,6 @@
 // Select in a word.
-ghost use Rattle.std.specs.Prelude.{◌≡◌, ◌≤◌};
+ghost use Rattle.std.specs.Prelude.{◌≡◌};
+ghost use Rattle.words.specs.Strip.{as_bit};
 ghost use Rattle.words.specs.Words.{select_in};
 
 use super::bits::matches;
@@ -20,13 +21,12 @@ pub fn select_in_word(x: u64, k: usize) -> usize
     }
     let at = 8 * j;
     let under = (((s << 8) >> at) % 256) as usize;
-    at + select_in_byte((x >> at) % 256, k - under)
+    at + select_in_byte(((x >> at) % 256) as usize, k - under)
 }
 
-// The position of the k-th bit of a word that equals v, or 64 where it has too few: for v = 0 that of the complement's k-th one.
-pub fn select_value(x: u64, v: u64, k: usize) -> usize
-    requires { v ≤ 1 }
-    ensures { result ≡ select_in 64 x v k }
+// The position of the k-th bit of a word that equals v, or 64 where it has too few: for a zero that of the complement's k-th one.
+pub fn select_value(x: u64, v: bool, k: usize) -> usize
+    ensures { result ≡ select_in 64 x (as_bit v) k }
 {
     select_in_word(matches(x, v), k)
 }

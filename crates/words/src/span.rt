@@ -5,16 +5,14 @@ ghost use Rattle.words.specs.Handles.{most_bits, words_of};
 
 use super::bits::{low_mask, ones_of};
 
-// The ones of the words from word `from` to word `to` - 1.
-fn words_ones(words: &[u64], from: usize, to: usize) -> usize
-    requires { (from ≤ to) × (to ≤ length words.now) × (to ≤ words_of most_bits) }
-    ensures { ones (bit_at words.now) (64 * from) + result ≡ ones (bit_at words.now) (64 * to) }
+// The ones of all words.
+pub fn words_ones(words: &[u64]) -> usize
+    requires { length words.now ≤ words_of most_bits }
+    ensures { result ≡ ones (bit_at words.now) (64 * length words.now) }
 {
     let mut sum: usize = 0;
-    let mut j = from;
-    while j < to {
-        sum += ones_of(words[j]);
-        j += 1;
+    for &x in words {
+        sum += ones_of(x);
     }
     sum
 }
@@ -34,7 +32,7 @@ pub fn span_ones(words: &[u64], a: usize, b: usize) -> usize
     if from == to {
         return ones_of(x & low_mask(b % 64)) - under;
     }
-    let sum = ones_of(x) - under + words_ones(words, from + 1, to);
+    let sum = ones_of(x) - under + words_ones(&words[from + 1..to]);
     if b % 64 == 0 {
         return sum;
     }

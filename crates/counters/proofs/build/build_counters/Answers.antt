@@ -1,9 +1,7 @@
 -- `counters::build::build_counters` meets its contract. The invariant: the levels 1 to t are laid. Assumes nothing.
 use Rattle.std.proofs.Common.{◌<◌, arith}
-use Rattle.words.specs.Bits.{bit_at}
 use Rattle.counters.specs.Tree.{height}
-use Rattle.counters.proofs.TreeLaws.{height_le}
-use Rattle.counters.proofs.BuildLaws.{upto_none, upto_bits, upto_room, upto_next, upto_more, upto_all}
+use Rattle.counters.proofs.BuildLaws.{upto_none, upto_room, upto_next, upto_more}
 use Rattle.counters.proofs.build.build_counters.Goals as goal
 use Rattle.counters.proofs.build.build_counters.Goals.{In-loop-t}
 
@@ -21,26 +19,8 @@ above-level-requires c = upto_room c.loop-t.invariant.1 (more (goal.at.above-lev
 pub build_level-requires : goal.build_level-requires
 build_level-requires c = upto_next c.loop-t.invariant.1 (more (goal.at.build_level-requires c).In-loop-t) c.above-level.ensures
 
-pub overflow_step-t : goal.overflow_step-t
-overflow_step-t c = omega (arith, height_le c.args.blocks)
-
-pub loop-t-smaller : goal.loop-t-smaller
-loop-t-smaller c = omega arith
-
 pub loop-t-preserved : goal.loop-t-preserved
 loop-t-preserved c =
     let l = c.loop-t in
     let call = c.build_level in
     (l.invariant.0, upto_more l.invariant.1 (more (goal.at.loop-t-preserved c).In-loop-t) c.above-level.ensures call.new.counters call.auto.counters call.ensures)
-
-pub ones_held-requires : goal.ones_held-requires
-ones_held-requires c = c.loop-t.invariant.1.tree
-
-pub shape_of-counters : goal.shape_of-counters
-shape_of-counters c = omega (arith, c.loop-t.invariant.1.tree.size)
-
-pub returns : goal.returns
-returns c =
-    let l = c.loop-t in
-    let fit = upto_all l.invariant.1 (omega (arith, l.invariant.0)) in
-    (c.ones_held.ensures.1 (bit_at c.args.words.now) fit (upto_bits l.invariant.1).past, fit)

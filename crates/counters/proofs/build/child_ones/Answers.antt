@@ -1,15 +1,13 @@
 -- `counters::build::child_ones` meets its contract. Assumes nothing.
-use Rattle.std.proofs.Common.{◌≡◌, ℕ, ◌+◌, ◌-◌, ◌*◌, ◌%◌, ◌^◌, ◌≤◌, length, ap, ◌∙◌, arith}
+use Rattle.std.proofs.Common.{◌≡◌, ℕ, ◌%◌, ◌^◌, List, ap, ◌∙◌, arith}
+use Rattle.words.specs.Bits.{bit_at, ones}
 use Rattle.counters.specs.Building.{child_holds}
 use Rattle.counters.proofs.BuildLaws.{child_past, child_block, child_above, child_block_le}
 use Rattle.counters.proofs.build.child_ones.Goals as goal
-use Rattle.counters.proofs.build.child_ones.Goals.{After-block_ones, After-struct_known-2-1}
+use Rattle.counters.proofs.build.child_ones.Goals.{After-block_ones}
 
 pub returns-then-below-m : goal.returns-then-below-m
 returns-then-below-m c = child_past c.args.words.now c.args.counters.now c.args.t c.args.below c.args.m c.requires c.if-below-m.true
-
-pub slice_bounds-block_ones-end : goal.slice_bounds-block_ones-end
-slice_bounds-block_ones-end c = omega (arith, c.requires.blocks c.if-t-eq0.true)
 
 -- the result is what the block holds
 held : (c : After-block_ones)
@@ -18,7 +16,8 @@ held : (c : After-block_ones)
 held c =
     let s = c.args in
     c.block_ones.ensures
-    ∙ child_block s.words.now s.counters.now s.t s.below s.m (8 * s.m + 8 - 8 * s.m) (omega arith) c.if-t-eq0.true
+    ∙ ap (λ (ws : List ℕ). ones (bit_at ws) 512) c.block_at.ensures
+    ∙ child_block s.words.now s.counters.now s.t s.below s.m c.if-t-eq0.true
 
 pub overflow_cast-result : goal.overflow_cast-result
 overflow_cast-result c =
@@ -27,18 +26,6 @@ overflow_cast-result c =
 
 pub returns-then-t-eq0 : goal.returns-then-t-eq0
 returns-then-t-eq0 c = held (goal.at.returns-then-t-eq0 c).After-block_ones
-
--- the node's counters are there
-room : (c : After-struct_known-2-1)
-    → c.args.below.start + 72 * c.args.m + 72 ≤ length c.args.counters.now
-room c =
-    omega (arith, c.requires.nodes (omega arith), c.if-below-m.false)
-
-pub overflow_add-below : goal.overflow_add-below
-overflow_add-below c = omega (arith, room (goal.at.overflow_add-below c).After-struct_known-2-1)
-
-pub node_ones-requires : goal.node_ones-requires
-node_ones-requires c = room (goal.at.node_ones-requires c).After-struct_known-2-1
 
 pub returns : goal.returns
 returns c =

@@ -6,7 +6,6 @@ use Rattle.counters.proofs.fit.node_fits.Goals as goal
 pub returns : goal.returns
 returns c =
     let s = c.args in
-    let call = c.fill_node in
+    let laid = c.fill_node in
     let a : ℕ = s.at + 72 * s.j in
-    node_compared c.same.result s.children s.counters.now call.new.node s.at s.j (a + 72 - a) (omega arith) call.ensures
-    c.same.ensures
+    node_compared c.eq.result s.children s.counters.now laid.new.node s.at s.j (a + 72 - a) (omega arith) c.requires.0 laid.auto.node laid.ensures c.eq.ensures

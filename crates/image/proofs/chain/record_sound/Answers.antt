@@ -39,14 +39,15 @@ facts c h =
     let k = fields_facts a.image.now a.at (sym c.fields_good.ensures ∙ c.if-not-fields_good.false) in
     record { room = omega arith; low = k.0; high = k.1; short = k.2; inside = omega arith; ahead = h }
 
-pub returns-then-next-eq0 : goal.returns-then-next-eq0
-returns-then-next-eq0 c = sym (record_sound _ _ _ (facts (goal.at.returns-then-next-eq0 c).Else-n-end (λ n. absurd (n (omega arith)))))
+pub returns-in-None : goal.returns-in-None
+returns-in-None c = sym (record_sound _ _ _ (facts (goal.at.returns-in-None c).Else-n-end (λ n. absurd (n (omega (arith, c.in-None.ensures))))))
 
-pub returns : goal.returns
-returns c =
+pub returns-in-Some : goal.returns-in-Some
+returns-in-Some c =
     let a = c.args in
     let end : ℕ = c.record_end-end.result in
-    let next : ℕ = c.next_record-next.result in
+    let next : ℕ = c.in-Some.next in
+    let k = c.in-Some.ensures in
     tells_record (kind_of a.image.now) a.image.now a.at (leb end next)
-    (λ t. facts (goal.at.returns c).Else-n-end (λ n. omega (arith, leb-true end next t)))
-    (λ f. le-leb end next (omega (arith, f.ahead (λ z. c.if-next-eq0.false (omega arith)))))
+    (λ t. facts (goal.at.returns-in-Some c).Else-n-end (λ n. omega (arith, k.0, leb-true end next t)))
+    (λ f. le-leb end next (omega (arith, k.0, k.1, f.ahead (λ z. omega (arith, k.0, k.1)))))

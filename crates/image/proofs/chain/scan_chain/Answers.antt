@@ -1,38 +1,28 @@
--- `image::chain::scan_chain` meets its contract. The invariant: what is told of the records walked, and the rest of the chain from `at` on. The
--- measure is what is left of the image past `at`. Assumes nothing.
-use mathlib.Core.Path.{◌≡◌, sym, ◌∙◌}
-use mathlib.Core.Bool.{true, cond}
-use native.Mathlib.Omega.{arith}
-use borrow.Author.Tests.{eq-eqb, ne_eqb}
-use lib.Dec.{eqb}
-use Rattle.image.specs.Chain.{kind_of, sound_header, sound_record}
+-- `image::chain::scan_chain` meets its contract. The invariant: what is told of the records walked, and the rest of the chain from `next` on. The
+-- measure is what is left of the image past it. Assumes nothing.
+use Rattle.std.proofs.Common.{◌≡◌, refl, sym, true, cond, eqb, eq-eqb, ne_eqb, arith}
+use Rattle.std.specs.Prelude.{Some}
+use Rattle.image.specs.Chain.{kind_of, sound_record}
 use Rattle.image.proofs.ChainLaws.{header_facts, RecordFacts, record_facts, chain_unsound}
-use Rattle.image.proofs.WalkLaws.{scanned_none, scanned_unsound, scanned_again, scanned_more, scan_unsound, scanned_done, left_less}
+use Rattle.image.proofs.WalkLaws.{Scanned, standing_here, left_turn, scanned_none, scanned_unsound, scanned_again, scanned_more, scan_unsound}
 use Rattle.image.proofs.chain.scan_chain.Goals as goal
-use Rattle.image.proofs.chain.scan_chain.Goals.{then-here-label, else-here-label, Else-not-header_sound, Else-not-record_sound, Joined-here-label}
+use Rattle.image.proofs.chain.scan_chain.Goals.{then-here-label, else-here-label, In-Some, Else-not-record_sound, Joined-here-label}
 
--- a header that is sound
-headed : (c : Else-not-header_sound) → sound_header c.args.image.now ≡ true
-headed c =
-    sym c.header_sound.ensures ∙ c.if-not-header_sound.false
+-- the scan at the record that a turn stands at
+here : (c : In-Some)
+    → Scanned c.args.image.now c.args.label c.in-Some.at c.loop-next.met c.loop-next.link c.loop-next.end c.loop-next.found × (c.in-Some.at ≡ 0 → ⊥)
+here c = standing_here c.loop-next.invariant c.in-Some.is
 
--- the record that a turn stands at is sound
-sound : (c : Else-not-record_sound)
-    → let s = c.args.image.now in
-    sound_record (kind_of s) s c.loop-at.at ≡ true
-sound c =
-    sym c.record_sound.ensures ∙ c.if-not-record_sound.false
+-- that record is sound
+sound : (c : Else-not-record_sound) → let s = c.args.image.now in sound_record (kind_of s) s c.in-Some.at ≡ true
+sound c = sym c.if-not-record_sound.ensures
 
-known : (c : Else-not-record_sound) (sound : let s = c.args.image.now in
-    sound_record (kind_of s) s c.loop-at.at ≡ true)
-    → let s = c.args.image.now in
-    RecordFacts (kind_of s) s c.loop-at.at
-known c sound =
-    record_facts _ _ _ (sound)
+known : (c : Else-not-record_sound) → let s = c.args.image.now in RecordFacts (kind_of s) s c.in-Some.at
+known c = record_facts _ _ _ (sound c)
 
 -- where the label was met, after the branch
 spot : (c : Joined-here-label)
-    → c.if-here-label.found ≡ cond (eqb c.label_at-here.result c.args.label) c.loop-at.at c.loop-at.found
+    → c.if-here-label.found ≡ cond (eqb c.label_at-here.result c.args.label) (Some c.in-Some.at) c.loop-next.found
 spot c =
     elim c.if-here-label.branch [
       | then-here-label w ↦ simp (eq-eqb _ _ w.if-here-label.true) w.found-is
@@ -40,42 +30,51 @@ spot c =
     ]
 
 pub returns-then-not-header_sound : goal.returns-then-not-header_sound
-returns-then-not-header_sound c = scan_unsound _ _ (chain_unsound _ (sym c.header_sound.ensures ∙ c.if-not-header_sound.true))
+returns-then-not-header_sound c = scan_unsound _ _ (chain_unsound _ (sym c.if-not-header_sound.ensures))
 
-pub first_record-at-requires : goal.first_record-at-requires
-first_record-at-requires c = (header_facts _ (headed (goal.at.first_record-at-requires c).Else-not-header_sound)).least
+pub first_record-next-requires : goal.first_record-next-requires
+first_record-next-requires c = (header_facts _ (sym c.if-not-header_sound.ensures)).least
 
-pub loop-at-init : goal.loop-at-init
-loop-at-init c = rw c.first_record-at.ensures (scanned_none _ _ (headed (goal.at.loop-at-init c).Else-not-header_sound))
+pub loop-next-init : goal.loop-next-init
+loop-next-init c = record { byte = _; stands = c.first_record-next.ensures; holds = scanned_none _ _ (sym c.if-not-header_sound.ensures) }
 
 pub returns-then-not-record_sound : goal.returns-then-not-record_sound
-returns-then-not-record_sound c = scanned_unsound c.loop-at.invariant c.loop-at-test.true (sym c.record_sound.ensures ∙ c.if-not-record_sound.true)
+returns-then-not-record_sound c =
+    let w = here (goal.at.returns-then-not-record_sound c).In-Some in
+    scanned_unsound w.0 w.1 (sym c.if-not-record_sound.ensures)
 
 pub label_at-here-requires : goal.label_at-here-requires
-label_at-here-requires c = (known (goal.at.label_at-here-requires c).Else-not-record_sound (sound (goal.at.label_at-here-requires c).Else-not-record_sound)).room
+label_at-here-requires c = (known c).room
 
 pub bounds-met-here : goal.bounds-met-here
-bounds-met-here c = omega (arith, (known (goal.at.bounds-met-here c).Else-not-record_sound (sound (goal.at.bounds-met-here c).Else-not-record_sound)).high)
+bounds-met-here c = omega (arith, (known (goal.at.bounds-met-here c).Else-not-record_sound).high)
 
 pub returns-then-met-here : goal.returns-then-met-here
-returns-then-met-here c = scanned_again c.loop-at.invariant c.loop-at-test.true (sound (goal.at.returns-then-met-here c).Else-not-record_sound) _ c.label_at-here.ensures.0 c.if-met-here.true
+returns-then-met-here c =
+    let w = here (goal.at.returns-then-met-here c).In-Some in
+    scanned_again w.0 w.1 (sound (goal.at.returns-then-met-here c).Else-not-record_sound) _ c.label_at-here.ensures.0 c.if-met-here.true
 
-pub bounds-met-here-in-loop-at : goal.bounds-met-here-in-loop-at
-bounds-met-here-in-loop-at c = omega (arith, (known (goal.at.bounds-met-here-in-loop-at c).Else-not-record_sound (sound (goal.at.bounds-met-here-in-loop-at c).Else-not-record_sound)).high)
+pub bounds-met-here-in-Some : goal.bounds-met-here-in-Some
+bounds-met-here-in-Some c = omega (arith, (known (goal.at.bounds-met-here-in-Some c).Else-not-record_sound).high)
 
 pub record_end-end-requires : goal.record_end-end-requires
-record_end-end-requires c = (known (goal.at.record_end-end-requires c).Else-not-record_sound (sound (goal.at.record_end-end-requires c).Else-not-record_sound)).room
+record_end-end-requires c = (known (goal.at.record_end-end-requires c).Else-not-record_sound).room
 
-pub next_record-at-requires : goal.next_record-at-requires
-next_record-at-requires c = (known (goal.at.next_record-at-requires c).Else-not-record_sound (sound (goal.at.next_record-at-requires c).Else-not-record_sound)).room
+pub next_record-next-requires : goal.next_record-next-requires
+next_record-next-requires c = (known (goal.at.next_record-next-requires c).Else-not-record_sound).room
 
-pub loop-at-smaller : goal.loop-at-smaller
-loop-at-smaller c = rw c.next_record-at.ensures (left_less _ _ c.loop-at-test.true (known (goal.at.loop-at-smaller c).Else-not-record_sound (sound (goal.at.loop-at-smaller c).Else-not-record_sound)))
+pub loop-next-smaller : goal.loop-next-smaller
+loop-next-smaller c =
+    let w = here (goal.at.loop-next-smaller c).In-Some in
+    left_turn _ _ _ _ c.in-Some.is w.1 (known (goal.at.loop-next-smaller c).Else-not-record_sound) c.next_record-next.ensures
 
-pub loop-at-preserved : goal.loop-at-preserved
-loop-at-preserved c =
-    scanned_more c.loop-at.invariant c.loop-at-test.true (sound (goal.at.loop-at-preserved c).Else-not-record_sound) _ c.label_at-here.ensures.0 _ _ c.if-here-label.found
-    c.next_record-at.ensures c.record_end-end.ensures c.if-met-here.false (spot (goal.at.loop-at-preserved c).Joined-here-label)
-
-pub returns : goal.returns
-returns c = scanned_done c.loop-at.invariant c.loop-at-test.false
+pub loop-next-preserved : goal.loop-next-preserved
+loop-next-preserved c =
+    let w = here (goal.at.loop-next-preserved c).In-Some in
+    record {
+      byte = _;
+      stands = c.next_record-next.ensures;
+      holds =
+          scanned_more w.0 w.1 (sound (goal.at.loop-next-preserved c).Else-not-record_sound) _ c.label_at-here.ensures.0 _ _ c.if-here-label.found
+          refl c.record_end-end.ensures c.if-met-here.false (spot (goal.at.loop-next-preserved c).Joined-here-label);
+    }

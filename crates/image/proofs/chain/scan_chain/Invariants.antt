@@ -1,11 +1,12 @@
--- `image::chain::scan_chain` meets its contract. The invariant: what is told of the records walked, and the rest of the chain from `at` on. The
--- measure is what is left of the image past `at`. Assumes nothing.
-use lib.ListN.{length}
-use Rattle.image.proofs.WalkLaws.{Scanned, left}
+-- `image::chain::scan_chain` meets its contract. The invariant: what is told of the records walked, and the rest of the chain from `next` on. The
+-- measure is what is left of the image past it. Assumes nothing.
+use Rattle.std.proofs.Common.{ℕ, length}
+use Rattle.std.specs.Prelude.{unwrap_or}
+use Rattle.image.proofs.WalkLaws.{Standing, Scanned, left}
 use Rattle.image.proofs.chain.scan_chain.Given as goal
 
-abbrev pub invariant-loop-at : goal.invariant-loop-at
-invariant-loop-at l = Scanned l.image l.label l.at l.met l.link l.end l.found
+abbrev pub invariant-loop-next : goal.invariant-loop-next
+invariant-loop-next l = Standing (λ (at : ℕ). Scanned l.image l.label at l.met l.link l.end l.found) l.next
 
-abbrev pub decreases-loop-at : goal.decreases-loop-at
-decreases-loop-at l = left (length l.image) l.at
+abbrev pub decreases-loop-next : goal.decreases-loop-next
+decreases-loop-next l = left (length l.image) (unwrap_or l.next 0)

@@ -1,13 +1,7 @@
--- `image::put::put_bytes` meets its contract. The invariant: what is still to be stored makes the whole. Assumes nothing.
-use native.Mathlib.Omega.{arith}
-use Rattle.image.proofs.PutLaws.{copying_none, copying_more, copying_done}
+-- `image::put::put_bytes` meets its contract. Assumes nothing.
+use Rattle.std.proofs.Common.{arith}
+use Rattle.image.proofs.PutLaws.{part_stored}
 use Rattle.image.proofs.put.put_bytes.Goals as goal
 
-pub loop-i-init : goal.loop-i-init
-loop-i-init c = copying_none _ _ _
-
-pub loop-i-preserved : goal.loop-i-preserved
-loop-i-preserved c = copying_more _ _ _ _ _ c.loop-i.invariant (omega arith)
-
 pub returns : goal.returns
-returns c = copying_done _ _ _ _ _ c.loop-i.invariant (omega arith)
+returns c = part_stored c.args.s.now c.args.b.now _ c.args.at _ c.requires (omega arith) c.copy_from_slice.ensures.after

@@ -3,11 +3,8 @@ use mathlib.Core.Path.{◌≡◌, sym, subst}
 use Prim.Native.Nat.{ℕ, ◌+◌, ◌*◌, ◌^◌, ◌<◌}
 use native.Mathlib.Omega.{arith}
 use Rattle.image.specs.Entry.{block_field}
-use Rattle.image.proofs.EntryLaws.{block_lt, word_lt, field_low, field_high}
+use Rattle.image.proofs.EntryLaws.{block_lt, field_low, field_high}
 use Rattle.image.proofs.reading.block_field.Goals as goal
-
-pub overflow_add-result : goal.overflow_add-result
-overflow_add-result c = record { fits = word_lt c.args.low c.args.high (omega arith) }
 
 -- a field, and its bound
 field : (v j r : ℕ) → r ≡ block_field v j → (r ≡ block_field v j) × (r < 2 ^ 12)

@@ -8,22 +8,13 @@ use Rattle.words.proofs.Sums.{ones_le}
 use Rattle.words.proofs.BitLaws.{bit_le}
 use Rattle.image.specs.Bytes.{bit_from}
 use Rattle.image.specs.Kinds.{kind1}
-use Rattle.image.proofs.CountLaws.{counting_none, counting_more, counting_done}
+use Rattle.image.proofs.CountLaws.{counting_none, counting_more}
 use Rattle.image.proofs.RightLaws.{block_more}
 use Rattle.image.proofs.right.block_counts.Goals as goal
 use Rattle.image.proofs.right.block_counts.Goals.{After-block_ones-sum}
 
 pub loop-j-init : goal.loop-j-init
 loop-j-init c = counting_none kind1 _ _ refl
-
-pub overflow_mul-j : goal.overflow_mul-j
-overflow_mul-j c = omega arith
-
-pub overflow_add-at : goal.overflow_add-at
-overflow_add-at c = omega arith
-
-pub block_at-block-requires : goal.block_at-block-requires
-block_at-block-requires c = omega arith
 
 -- the ones up to the end of block j
 next : (c : After-block_ones-sum)
@@ -41,24 +32,7 @@ overflow_add-sum c =
     let a = c.args in
     omega (arith, next (goal.at.overflow_add-sum c).After-block_ones-sum, ones_le (bit_from a.part.now a.at) (512 * (l.j + 1)) (λ p. bit_le (get_or a.part.now (a.at + p / 8) 0) (p % 8)))
 
-pub offset_bounds-counts-j : goal.offset_bounds-counts-j
-offset_bounds-counts-j c = omega arith
-
-pub bounds-counts-j : goal.bounds-counts-j
-bounds-counts-j c = omega arith
-
-pub overflow_step-j : goal.overflow_step-j
-overflow_step-j c = omega arith
-
-pub loop-j-smaller : goal.loop-j-smaller
-loop-j-smaller c = omega arith
-
 pub loop-j-preserved : goal.loop-j-preserved
 loop-j-preserved c =
     let l = c.loop-j in
     counting_more kind1 _ l.counts l.sum l.j _ l.invariant c.loop-j-test.true (next (goal.at.loop-j-preserved c).After-block_ones-sum)
-
-pub returns : goal.returns
-returns c =
-    let l = c.loop-j in
-    counting_done kind1 _ l.counts l.sum l.j l.invariant c.loop-j-test.false

@@ -17,48 +17,29 @@ use Rattle.image.proofs.RightLaws.{no_right, SuperblocksRead, read_none, read_le
 use Rattle.image.proofs.RightLaws.{SuperblockCounted, read_counted, read_more, read_wrong}
 use Rattle.std.proofs.Common.{not}
 use Rattle.image.proofs.right.part_right.Goals as goal
-use Rattle.image.proofs.right.part_right.Goals.{After-block_counts-counts, Else-not-entry_right}
+use Rattle.image.proofs.right.part_right.Goals.{After-padding_zero, After-block_counts-counts, Else-not-entry_right}
 
-pub padding_zero-requires : goal.padding_zero-requires
-padding_zero-requires c =
-    let a = c.args in
-    let k = good_part_lem kind1 a.part.now a.n c.requires in
+pub new-requires : goal.new-requires
+new-requires c =
+    let k = good_part_lem kind1 c.args.part.now c.args.n c.requires in
     (k.1, k.2)
+
+-- whether the padding is zero, of the part
+padded : (c : After-padding_zero) → Decides c.padding_zero.result (PaddingZero kind1 c.args.part.now c.args.n)
+padded c = rw (c.new.ensures.0, c.new.ensures.1) at c.padding_zero.ensures
 
 pub returns-then-not-padding_zero : goal.returns-then-not-padding_zero
 returns-then-not-padding_zero c =
     let a = c.args in
-    let pad = c.padding_zero in
-    no_right kind1 kind1_fits kind1_tells a.part.now a.n c.requires (λ i. omega (arith, c.shared_slice_known-1.given i))
-    (λ f. subst (λ (b : Bool). Decides b (PaddingZero kind1 a.part.now a.n)) (c.if-not-padding_zero.true) pad.ensures f.padding)
-
-pub bits_start-start-requires : goal.bits_start-start-requires
-bits_start-start-requires c = (good_part_lem kind1 c.args.part.now c.args.n c.requires).2
-
-pub superblocks_of-e-end-requires : goal.superblocks_of-e-end-requires
-superblocks_of-e-end-requires c = omega (arith, (good_part_lem kind1 c.args.part.now c.args.n c.requires).2)
+    let pad = padded (goal.at.returns-then-not-padding_zero c).After-padding_zero in
+    no_right kind1 kind1_fits kind1_tells a.part.now a.n c.requires (λ i. omega (arith, c.type_inv.part i))
+    (λ f. subst (λ (b : Bool). Decides b (PaddingZero kind1 a.part.now a.n)) (c.if-not-padding_zero.true) pad f.padding)
 
 pub loop-e-init : goal.loop-e-init
 loop-e-init c =
     let a = c.args in
-    let pad = c.padding_zero in
     read_none kind1 a.part.now a.n (λ i l. absurd (omega (arith, kind1_unpadded a.n)))
-    (subst (λ (b : Bool). Decides b (PaddingZero kind1 a.part.now a.n)) (c.if-not-padding_zero.false) pad.ensures)
-
-pub overflow_mul-e : goal.overflow_mul-e
-overflow_mul-e c = omega arith
-
-pub overflow_add-start : goal.overflow_add-start
-overflow_add-start c = omega arith
-
-pub block_counts-counts-requires : goal.block_counts-counts-requires
-block_counts-counts-requires c = omega (arith, (good_part_lem kind1 c.args.part.now c.args.n c.requires).1)
-
-pub overflow_mul-e-in-loop-e : goal.overflow_mul-e-in-loop-e
-overflow_mul-e-in-loop-e c = omega arith
-
-pub overflow_add-e : goal.overflow_add-e
-overflow_add-e c = omega arith
+    (subst (λ (b : Bool). Decides b (PaddingZero kind1 a.part.now a.n)) (c.if-not-padding_zero.false) (padded (goal.at.loop-e-init c).After-padding_zero))
 
 -- the ones of superblock e are counted
 counted : (c : After-block_counts-counts)
@@ -86,11 +67,8 @@ pub returns-then-not-entry_right : goal.returns-then-not-entry_right
 returns-then-not-entry_right c =
     let right = c.entry_right in
     no_right kind1 kind1_fits kind1_tells c.args.part.now c.args.n c.requires
-    (λ i. omega (arith, c.shared_slice_known-1.given i))
+    (λ i. omega (arith, c.type_inv.part i))
     (read_wrong kind1 kind1_fits _ _ _ _ _ (counted (goal.at.returns-then-not-entry_right c).After-block_counts-counts) right.result _ (entry_made _ _ _ (counted (goal.at.returns-then-not-entry_right c).After-block_counts-counts).counted) right.ensures (ap not c.if-not-entry_right.true))
-
-pub bounds-counts-7 : goal.bounds-counts-7
-bounds-counts-7 c = omega arith
 
 -- the entry of superblock e is right
 next : (c : Else-not-entry_right) (counted : let a = c.args in
@@ -110,22 +88,13 @@ overflow_add-sum c =
     let l = c.loop-e in
     omega (arith, read_le kind1 a.part.now a.n (l.e + 1) _ (next (goal.at.overflow_add-sum c).Else-not-entry_right (counted (goal.at.overflow_add-sum c).After-block_counts-counts)))
 
-pub overflow_step-e : goal.overflow_step-e
-overflow_step-e c = omega arith
-
-pub loop-e-smaller : goal.loop-e-smaller
-loop-e-smaller c = omega arith
-
 pub loop-e-preserved : goal.loop-e-preserved
 loop-e-preserved c = next (goal.at.loop-e-preserved c).Else-not-entry_right (counted (goal.at.loop-e-preserved c).After-block_counts-counts)
-
-pub ones_at-requires : goal.ones_at-requires
-ones_at-requires c = (good_part_lem kind1 c.args.part.now c.args.n c.requires).0
 
 pub returns : goal.returns
 returns c =
     let a = c.args in
     let l = c.loop-e in
     read_done kind1 kind1_fits kind1_tells a.part.now a.n l.e l.sum c.ones_at.result c.requires
-    (λ i. omega (arith, c.shared_slice_known-1.given i)) l.invariant (omega arith)
+    (λ i. omega (arith, c.type_inv.part i)) l.invariant (omega arith)
     c.ones_at.ensures.0

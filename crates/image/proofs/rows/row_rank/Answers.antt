@@ -1,33 +1,29 @@
 -- `image::rows::row_rank` meets its contract: the promise of `part_rank`, carried over to the label's row. Assumes nothing.
-use mathlib.Core.List.{[], ◌∷◌}
+use Rattle.std.proofs.Common.{[], ◌∷◌, ap, ◌∙◌}
+use Rattle.words.specs.Refusals.{told_of}
 use Rattle.words.specs.Calls.{value_line, within_line}
+use Rattle.words.proofs.CheckLaws.{raised}
 use Rattle.image.specs.Calls.{row_length}
 use Rattle.image.specs.Kinds.{kind1}
 use Rattle.image.proofs.KindLaws.{one_kind}
 use Rattle.image.proofs.RowLaws.{row_refused_promise, row_inside, row_room, row_held, row_count}
 use Rattle.image.proofs.rows.row_rank.Goals as goal
 
-pub returns-in_default : goal.returns-in_default
-returns-in_default c =
+pub returns-in_err-at : goal.returns-in_err-at
+returns-in_err-at c =
     let a = c.args in
+    let e = raised _ _ c.from_residual.ensures.1 in
     row_refused_promise a.image.now a.label _ _ (value_line a.v ∷ within_line (row_length a.image.now a.label) a.i ∷ [])
-    c.open_row-o.ensures c.in_default.is _ _ _
+    (ap told_of e ∙ c.in_err-at.ensures) e _ _ _
 
 pub record_part-part-requires : goal.record_part-part-requires
-record_part-part-requires c =
-    let a = c.args in
-    row_inside a.image.now a.label _ _ c.open_row-o.ensures c.in-Value.is
+record_part-part-requires c = row_inside c.args.image.now c.args.label _ c.in_ok-at.ensures
 
 pub length_at-requires : goal.length_at-requires
-length_at-requires c =
-    let a = c.args in
-    row_room a.image.now a.label _ _ c.open_row-o.ensures c.in-Value.is
-    _ c.record_part-part.ensures
+length_at-requires c = row_room c.args.image.now c.args.label _ c.in_ok-at.ensures _ c.record_part-part.ensures
 
 pub returns : goal.returns
 returns c =
     let a = c.args in
-    let row =
-    row_held a.image.now a.label _ _ c.open_row-o.ensures c.in-Value.is
-    kind1 _ _ (one_kind a.image.now) c.record_part-part.ensures c.length_at.ensures.0 in
+    let row = row_held a.image.now a.label _ c.in_ok-at.ensures kind1 _ _ (one_kind a.image.now) c.record_part-part.ensures c.length_at.ensures.0 in
     row_count row a.v a.i _ c.part_rank.ensures

@@ -5,7 +5,7 @@ use native.Mathlib.Omega.{arith}
 use Rattle.words.specs.Bits.{bit_at}
 use Rattle.words.proofs.WordLaws.{word_bit, bit_at_le}
 use Rattle.image.specs.Writing.{BitsPut}
-use Rattle.image.proofs.WriteLaws.{bits_none, bits_length, bits_le, bits_size, word_more}
+use Rattle.image.proofs.WriteLaws.{bits_none, bits_length, bits_le, word_more}
 use Rattle.image.proofs.write.put_block.Goals as goal
 use Rattle.image.proofs.write.put_block.Goals.{After-ones_of-sum}
 
@@ -32,8 +32,3 @@ overflow_add-sum c =
 
 pub loop-j-preserved : goal.loop-j-preserved
 loop-j-preserved c = (omega arith, bits_length _ _ _ _ _ _ (next (goal.at.loop-j-preserved c).After-ones_of-sum), next (goal.at.loop-j-preserved c).After-ones_of-sum)
-
-pub returns : goal.returns
-returns c =
-    let l = c.loop-j in
-    bits_size _ _ _ _ (8 * l.j) 64 _ l.invariant.2 (omega arith)

@@ -7,8 +7,7 @@ use Rattle.words.specs.Strip.{cell, strip_of}
 use Rattle.words.proofs.StripLaws.{strip_le}
 use Rattle.image.specs.Kinds.{kind1}
 use Rattle.image.specs.Writing.{superblock_cells}
-use Rattle.image.proofs.KindLaws.{kind1_fits}
-use Rattle.image.proofs.WriteLaws.{Blocks, blocks_none, blocks_more, blocks_done, bits_ext, bits_length, bits_le}
+use Rattle.image.proofs.WriteLaws.{Blocks, blocks_none, blocks_more, bits_ext, bits_length, bits_le}
 use Rattle.image.proofs.write.put_superblock.Goals as goal
 use Rattle.image.proofs.write.put_superblock.Goals.{After-slice_known-in-loop-j-1}
 
@@ -26,7 +25,7 @@ next c =
     let a = c.args in
     let t = strip_of a.words.now a.n in
     let g = superblock_cells kind1 t a.e in
-    let place : (p : ℕ) → 64 * (64 * a.e + 8 * l.j) + p ≡ 4096 * a.e + (8 * (64 * l.j) + p) = λ p. omega arith in
+    let place : (p : ℕ) → 512 * (8 * a.e + l.j) + p ≡ 4096 * a.e + (8 * (64 * l.j) + p) = λ p. omega arith in
     blocks_more kind1 g a.at a.bytes.now l.bytes _ l.counts l.sum l.j _ l.invariant.1 c.loop-j-test.true
     (bits_ext (λ p. g (8 * (64 * l.j) + p)) _ _ _ _ 64 _ c.put_strip_block-sum.ensures (λ p h. ap (cell t) (place p)))
 
@@ -37,13 +36,5 @@ overflow_add-sum c =
     let b = bits_le _ _ _ _ (64 * (l.j + 1)) _ (next (goal.at.overflow_add-sum c).After-slice_known-in-loop-j-1).put (λ p. strip_le a.words.now a.n (4096 * a.e + p)) in
     omega (arith, b)
 
-pub bounds-counts-j : goal.bounds-counts-j
-bounds-counts-j c = omega arith
-
 pub loop-j-preserved : goal.loop-j-preserved
 loop-j-preserved c = (bits_length _ _ _ _ _ _ (next (goal.at.loop-j-preserved c).After-slice_known-in-loop-j-1).put, next (goal.at.loop-j-preserved c).After-slice_known-in-loop-j-1)
-
-pub returns : goal.returns
-returns c =
-    let l = c.loop-j in
-    blocks_done kind1 _ _ _ kind1_fits _ l.counts l.sum l.j l.invariant.1 c.loop-j-test.false

@@ -1,11 +1,8 @@
 -- `image::write::write_superblocks` meets its contract. The invariant: the superblocks before e are stored. Assumes nothing.
-use mathlib.Core.Path.{◌≡◌, refl, subst}
-use Prim.Native.Nat.{ℕ}
+use mathlib.Core.Path.{refl}
 use native.Mathlib.Omega.{arith}
 use Rattle.words.specs.Strip.{cell, strip_of}
 use Rattle.image.specs.Kinds.{kind1}
-use Rattle.image.specs.Layout.{superblocks_of}
-use Rattle.image.specs.Writing.{RowPut}
 use Rattle.words.proofs.StripLaws.{strip_le}
 use Rattle.image.proofs.KindLaws.{kind1_fits}
 use Rattle.image.proofs.WriteLaws.{row_none, row_more, row_length_lem, row_le}
@@ -28,10 +25,3 @@ loop-e-preserved c =
     let row = row_more kind1 (cell (strip_of a.words.now a.n)) a.a a.b a.image.now kind1_fits l.e l.image _ l.sum _ l.invariant.2
     c.write_superblock-sum.ensures (omega arith) in
     (omega arith, row_length_lem kind1 _ _ _ _ _ _ _ row, row)
-
-pub returns : goal.returns
-returns c =
-    let l = c.loop-e in
-    let a = c.args in
-    let whole : l.e ≡ superblocks_of kind1 a.n = omega arith in
-    subst (λ (k : ℕ). RowPut kind1 (cell (strip_of a.words.now a.n)) k a.a a.b a.image.now l.image l.sum) whole l.invariant.2

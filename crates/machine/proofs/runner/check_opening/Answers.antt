@@ -1,40 +1,34 @@
 -- `machine::runner::check_opening` meets its contract. Assumes nothing.
 use mathlib.Core.Path.{sym, ap, ◌∙◌}
-use Rattle.words.specs.Refusals.{verdict_of}
-use Rattle.machine.proofs.OpeningLaws.{clear_first, create_first, create_says, clear_refuses, clear_passes}
+use mathlib.Core.Bool.{Bool}
+use mathlib.Core.List.{[]}
+use Rattle.words.specs.Refusals.{judge}
+use Rattle.words.specs.Handles.{handle_of}
+use Rattle.words.proofs.CheckLaws.{raised_first, passed_first}
+use Rattle.counters.specs.Calls.{checks}
+use Rattle.image.specs.Calls.{clear_table}
+use Rattle.machine.specs.Machine.{opening_table}
+use Rattle.machine.proofs.ExecuteLaws.{create_says}
 use Rattle.machine.proofs.runner.check_opening.Goals as goal
 
-pub returns-then-not-sized : goal.returns-then-not-sized
-returns-then-not-sized c =
+pub returns-then-clear_first : goal.returns-then-clear_first
+returns-then-clear_first c =
     let a = c.args in
-    sym (clear_first a.capacity a.order a.words a.counters a.bytes _ c.if-order-ne0.true
-    (clear_refuses a.bytes (sym c.size_good-sized.ensures ∙ c.if-not-sized.true)))
+    create_says _ _ _ _ _ c.new-h.ensures c.check_record.ensures
+    ∙ sym (passed_first (clear_table a.bytes) (checks (handle_of a.capacity []) a.words a.counters) _ c.check_clear.ensures c.in_ok-check_clear.was)
+    ∙ ap (λ (b : Bool). judge (opening_table a.capacity b a.words a.counters a.bytes)) (sym c.if-clear_first.true)
 
-pub returns-then-order-ne0 : goal.returns-then-order-ne0
-returns-then-order-ne0 c =
+pub returns-in_err-check_record : goal.returns-in_err-check_record
+returns-in_err-check_record c =
     let a = c.args in
-    sym (clear_first a.capacity a.order a.words a.counters a.bytes _ c.if-order-ne0.true
-    (clear_passes a.bytes (sym c.size_good-sized.ensures ∙ c.if-not-sized.false))
-    ∙ create_says _ _ _ _ _ c.new.ensures c.check_record-record.ensures)
-
-pub returns-in_default : goal.returns-in_default
-returns-in_default c =
-    let a = c.args in
-    let v = c.in_default.is in
-    ap verdict_of v
-    ∙ sym (create_first a.capacity a.order a.words a.counters a.bytes _ c.if-order-ne0.false
-    (create_says _ _ _ _ _ c.new.ensures c.check_record-record.ensures ∙ ap verdict_of v))
-
-pub returns-then-not-sized-2 : goal.returns-then-not-sized-2
-returns-then-not-sized-2 c =
-    let a = c.args in
-    sym (create_first a.capacity a.order a.words a.counters a.bytes _ c.if-order-ne0.false
-    (create_says _ _ _ _ _ c.new.ensures c.check_record-record.ensures ∙ ap verdict_of c.in-Pass.is)
-    ∙ clear_refuses a.bytes (sym c.size_good-sized.ensures ∙ c.if-not-sized-2.true))
+    raised_first (checks (handle_of a.capacity []) a.words a.counters) (clear_table a.bytes) _ _ _
+    (create_says _ _ _ _ _ c.new-h.ensures c.check_record-2.ensures) c.in_err-check_record.was c.from_residual-in_err-check_record.ensures.1
+    ∙ ap (λ (b : Bool). judge (opening_table a.capacity b a.words a.counters a.bytes)) (sym c.if-clear_first.false)
 
 pub returns : goal.returns
 returns c =
     let a = c.args in
-    sym (create_first a.capacity a.order a.words a.counters a.bytes _ c.if-order-ne0.false
-    (create_says _ _ _ _ _ c.new.ensures c.check_record-record.ensures ∙ ap verdict_of c.in-Pass.is)
-    ∙ clear_passes a.bytes (sym c.size_good-sized.ensures ∙ c.if-not-sized-2.false))
+    c.check_clear-2.ensures
+    ∙ sym (passed_first (checks (handle_of a.capacity []) a.words a.counters) (clear_table a.bytes) _
+    (create_says _ _ _ _ _ c.new-h.ensures c.check_record-2.ensures) c.in_ok-check_record.was)
+    ∙ ap (λ (b : Bool). judge (opening_table a.capacity b a.words a.counters a.bytes)) (sym c.if-clear_first.false)

@@ -1,5 +1,5 @@
 -- `merging::copy::copy_words` meets its contract. The invariant: what is still to be stored makes the whole. Assumes nothing.
-use Prim.Native.Nat.{◌*◌}
+use Rattle.std.proofs.Common.{◌*◌}
 use Rattle.image.proofs.PutLaws.{Copying}
 use Rattle.merging.proofs.copy.copy_words.Given as goal
 

@@ -7,7 +7,7 @@ use native.Mathlib.Omega.{arith}
 use lib.ListN.{length}
 use Rattle.words.specs.Refusals.{value}
 use Rattle.image.specs.Kinds.{Kind, kind1}
-use Rattle.image.specs.Layout.{unit_bytes, most_label}
+use Rattle.image.specs.Layout.{unit_bytes}
 use Rattle.image.specs.Chain.{kind_of, good_size}
 use Rattle.image.specs.Shelf.{sizes_of, written}
 use Rattle.image.specs.Calls.{image_outcome}
@@ -34,10 +34,9 @@ ended : (c : After-measure-more)
     → unit_bytes + c.measure-own.result.bytes + c.measure-more.result.bytes
     ≡ unit_bytes + sizes_of kind1 (merged_rows c.args.first.now c.args.second.now)
 ended c =
-    let placed = c.set_places.ensures in
     omega (
       arith,
-      merged_sizes c.requires.0 placed c.requires.1 kind1 kind1_fits (most_label + 1),
+      merged_sizes c.set_places.ensures c.requires.1 kind1 kind1_fits,
       c.measure-own.ensures.sizes,
       c.measure-more.ensures.sizes,
     )
@@ -67,8 +66,7 @@ returns-then-third-end c =
 
 pub write_rows-requires : goal.write_rows-requires
 write_rows-requires c = (
-  c.requires.0,
-  c.set_places.ensures,
+  (c.requires.0, c.set_places.ensures),
   c.requires.1,
   ended (goal.at.write_rows-requires c).After-measure-more,
   omega (arith, c.if-third-end.false),
@@ -83,7 +81,7 @@ returns c =
     let rows : c.measure-own.result.rows + c.measure-more.result.rows ≡ length (merged_rows first second) =
     omega (
       arith,
-      merged_number c.requires.0 c.set_places.ensures c.requires.1 (most_label + 1),
+      merged_number c.set_places.ensures c.requires.1,
       c.measure-own.ensures.number,
       c.measure-more.ensures.number,
     ) in

@@ -1,12 +1,16 @@
--- `merging::rows::measure` meets its contract. The invariant: the number of the rows walked that count, and the bytes of their records. Assumes nothing.
-use lib.ListN.{length}
+-- `merging::rows::measure` meets its contract. The invariant: the number of the rows walked that count, and the bytes of their records. The measure is what is left of the image past `next`.
+-- Assumes nothing.
+use Rattle.std.proofs.Common.{ℕ, length}
+use Rattle.std.specs.Prelude.{unwrap_or}
+use Rattle.std.specs.Option.{option_copied}
 use Rattle.image.specs.Kinds.{kind1}
-use Rattle.image.proofs.WalkLaws.{left}
+use Rattle.image.proofs.WalkLaws.{Standing, left}
+use Rattle.merging.specs.Working.{marked}
 use Rattle.merging.proofs.LoopLaws.{Measuring}
 use Rattle.merging.proofs.rows.measure.Given as goal
 
-abbrev pub invariant-loop-at : goal.invariant-loop-at
-invariant-loop-at l = Measuring kind1 l.image l.marks l.at l.rows l.bytes
+abbrev pub invariant-loop-next : goal.invariant-loop-next
+invariant-loop-next l = Standing (λ (at : ℕ). Measuring kind1 l.image (marked (option_copied l.marks)) at l.rows l.bytes) l.next
 
-abbrev pub decreases-loop-at : goal.decreases-loop-at
-decreases-loop-at l = left (length l.image) l.at
+abbrev pub decreases-loop-next : goal.decreases-loop-next
+decreases-loop-next l = left (length l.image) (unwrap_or l.next 0)

@@ -1,47 +1,42 @@
 -- `merging::rows::set_places` meets its contract. The invariant: the places of the records walked. Assumes nothing.
-use mathlib.Core.Path.{sym, ap, ◌∙◌}
-use Prim.Native.Nat.{ℕ, ◌+◌}
-use native.Mathlib.Omega.{arith}
-use lib.ListN.{length, length-replicate}
-use Rattle.image.specs.Layout.{most_label}
+use Rattle.std.proofs.Common.{◌≡◌, arith}
 use Rattle.image.specs.Chain.{kind_of}
-use Rattle.image.proofs.ChainLaws.{RecordFacts, chain_facts}
-use Rattle.image.proofs.WalkLaws.{left_less}
-use Rattle.image.proofs.InspectLaws.{obeys_chain}
-use Rattle.merging.proofs.RowsLaws.{row_walk_facts}
-use Rattle.merging.proofs.LoopLaws.{placing_none, placing_more, placing_done}
+use Rattle.image.proofs.ChainLaws.{RecordFacts}
+use Rattle.image.proofs.WalkLaws.{standing_here, left_turn}
+use Rattle.merging.proofs.RowsLaws.{obeys_least, row_walk_facts}
+use Rattle.merging.proofs.LoopLaws.{Placing, placing_none, placing_more}
 use Rattle.merging.proofs.rows.set_places.Goals as goal
-use Rattle.merging.proofs.rows.set_places.Goals.{In-loop-at}
+use Rattle.merging.proofs.rows.set_places.Goals.{In-Some}
 
--- the record that a turn stands at
-known : (c : In-loop-at)
-    → let s = c.args.image.now in RecordFacts (kind_of s) s c.loop-at.at
-known c =
-    row_walk_facts c.loop-at.invariant.walk c.loop-at-test.true
+-- the walk at the record that a turn stands at
+here : (c : In-Some) → Placing c.args.image.now c.loop-next.places c.in-Some.at × (c.in-Some.at ≡ 0 → ⊥)
+here c = standing_here c.loop-next.invariant c.in-Some.is
 
-pub first_record-at-requires : goal.first_record-at-requires
-first_record-at-requires c = (chain_facts _ _ (obeys_chain c.requires.0)).header.least
+-- that record
+known : (c : In-Some) → let s = c.args.image.now in RecordFacts (kind_of s) s c.in-Some.at
+known c = let w = here c in row_walk_facts w.0.walk w.1
 
-pub loop-at-init : goal.loop-at-init
-loop-at-init c = rw (c.first_record-at.ensures, c.requires.1) (placing_none _ c.requires.0)
+pub first_record-next-requires : goal.first_record-next-requires
+first_record-next-requires c = obeys_least c.requires.0
+
+pub loop-next-init : goal.loop-next-init
+loop-next-init c = record { byte = _; stands = c.first_record-next.ensures; holds = rw c.requires.1 (placing_none _ c.requires.0) }
 
 pub label_at-requires : goal.label_at-requires
-label_at-requires c = (known (goal.at.label_at-requires c).In-loop-at).room
+label_at-requires c = (known (goal.at.label_at-requires c).In-Some).room
 
 pub bounds-places-label_at : goal.bounds-places-label_at
-bounds-places-label_at c = omega (arith, c.label_at.ensures.0, (known (goal.at.bounds-places-label_at c).In-loop-at).high, c.loop-at.invariant.long)
+bounds-places-label_at c = omega (arith, c.label_at.ensures.0, (known (goal.at.bounds-places-label_at c).In-Some).high)
 
-pub next_record-at-requires : goal.next_record-at-requires
-next_record-at-requires c = (known (goal.at.next_record-at-requires c).In-loop-at).room
+pub next_record-next-requires : goal.next_record-next-requires
+next_record-next-requires c = (known (goal.at.next_record-next-requires c).In-Some).room
 
-pub loop-at-smaller : goal.loop-at-smaller
-loop-at-smaller c = rw c.next_record-at.ensures (left_less _ _ c.loop-at-test.true (known (goal.at.loop-at-smaller c).In-loop-at))
+pub loop-next-smaller : goal.loop-next-smaller
+loop-next-smaller c =
+    let i = (goal.at.loop-next-smaller c).In-Some in
+    left_turn _ _ _ _ c.in-Some.is (here i).1 (known i) c.next_record-next.ensures
 
-pub loop-at-preserved : goal.loop-at-preserved
-loop-at-preserved c = placing_more c.loop-at.invariant c.loop-at-test.true _ _ c.label_at.ensures.0 c.next_record-at.ensures
-
-pub shape_of-places : goal.shape_of-places
-shape_of-places c = c.loop-at.invariant.long ∙ sym (ap length c.requires.1 ∙ length-replicate {A = ℕ} (most_label + 1) 0)
-
-pub returns : goal.returns
-returns c = placing_done c.loop-at.invariant c.loop-at-test.false
+pub loop-next-preserved : goal.loop-next-preserved
+loop-next-preserved c =
+    let w = here (goal.at.loop-next-preserved c).In-Some in
+    record { byte = _; stands = c.next_record-next.ensures; holds = placing_more w.0 w.1 _ c.label_at.ensures.0 }

@@ -1,14 +1,12 @@
--- `strips::pair::strip_pair_find` meets its contract: it is that of `pair_select`, then that of `coded`. Assumes nothing.
-use mathlib.Core.Path.{ap, ap₂, ◌∙◌}
+-- `strips::pair::strip_pair_find` meets its contract. Assumes nothing.
+use Rattle.std.proofs.Common.{ℕ, List}
 use Rattle.words.specs.declared.handle.Handle.{Handle}
-use Rattle.words.specs.Refusals.{coded}
 use Rattle.pairs.specs.Rules.{differ}
 use Rattle.pairs.specs.Calls.{pair_select_told}
+use Rattle.strips.proofs.ExportLaws.{paired}
 use Rattle.strips.proofs.pair.strip_pair_find.Goals as goal
 
 pub returns : goal.returns
 returns c =
-    let a = c.args in
-    c.coded.ensures
-    ∙ ap coded (c.pair_select.ensures
-    ∙ ap₂ (λ (h g : Handle). pair_select_told differ h a.words.now g a.words2.now a.k) c.new.ensures c.new-2.ensures)
+    paired (λ (h : Handle) (ws : List ℕ) (k : Handle) (vs : List ℕ). pair_select_told differ h ws k vs c.args.k) c.strip_over-first.ensures c.strip_over-second.ensures
+    c.pair_select.ensures c.coded.ensures

@@ -1,71 +1,92 @@
 -- `waiting::waiting::waiting_select` meets its contract: the k-th of the misfires that may be, and of those that must be. Assumes nothing.
-use Prim.Native.Nat.{◌+◌, ◌/◌}
-use native.Mathlib.Omega.{arith}
-use lib.ListN.{length}
+use Rattle.std.proofs.Common.{◌≡◌, ◌+◌, ◌*◌, ◌/◌, length, sym, arith}
 use Rattle.words.specs.Strip.{strip_of}
-use Rattle.words.proofs.CheckLaws.{judged_pass, right_refused, right_passed}
+use Rattle.words.proofs.CheckLaws.{right_passed}
 use Rattle.pairs.specs.Calls.{pair_lines}
-use Rattle.pairs.proofs.CheckLaws.{CheckedPair, checked_pair}
+use Rattle.pairs.proofs.CheckLaws.{checked_pair}
+use Rattle.pairs.proofs.JoinLaws.{kth_below, kth_past, kth_none}
 use Rattle.waiting.specs.Calls.{SelectTold, from_to, from_on, unselected, RightSelect, WaitingSelect}
+use Rattle.waiting.specs.Working.{must_bit, may_bit}
 use Rattle.waiting.proofs.CallLaws.{right_beyond, right_none, right_to, right_on}
 use Rattle.waiting.proofs.waiting.waiting_select.Goals as goal
-use Rattle.waiting.proofs.waiting.waiting_select.Goals.{In-Pass}
+use Rattle.waiting.proofs.waiting.waiting_select.Goals.{In_ok-check_pair}
 
--- what the checks leave
-known : (c : In-Pass) → let a = c.args in CheckedPair a.strip (length a.xs.now) a.waiting (length a.ys.now)
-known c =
-    let a = c.args in
-    checked_pair a.strip (length a.xs.now) a.waiting (length a.ys.now)
-    (judged_pass (pair_lines a.strip (length a.xs.now) a.waiting (length a.ys.now)) c.check_pair.result c.check_pair.ensures c.in-Pass.is)
-
--- passed: an answer that is right
-passed : (c : In-Pass) (x : SelectTold)
+-- passed: an answer that is right of strips of one length
+passed : (c : In_ok-check_pair) (x : SelectTold)
     → let a = c.args in
-    RightSelect (strip_of a.xs.now a.strip.length) (strip_of a.ys.now a.waiting.length) a.k x
-    → WaitingSelect a.strip a.xs.now a.waiting a.ys.now a.k x
-passed c x h =
-    let a = c.args in
-    right_passed (pair_lines a.strip (length a.xs.now) a.waiting (length a.ys.now)) c.check_pair.result unselected
-    (RightSelect (strip_of a.xs.now a.strip.length) (strip_of a.ys.now a.waiting.length) a.k) c.check_pair.ensures x c.in-Pass.is h
+    let ws = a.strip.words.now in
+    let vs = a.waiting.words.now in
+    (a.strip.handle.length ≡ a.waiting.handle.length → RightSelect (strip_of ws a.strip.handle.length) (strip_of vs a.waiting.handle.length) a.k x)
+    → WaitingSelect a.strip.handle ws a.waiting.handle vs a.k x
+passed c x right =
+    let h = c.args.strip.handle in
+    let ws = c.args.strip.words.now in
+    let g = c.args.waiting.handle in
+    let vs = c.args.waiting.words.now in
+    let k = checked_pair h (length ws) g (length vs) (sym c.in_ok-check_pair.ensures) in
+    right_passed (pair_lines h (length ws) g (length vs)) c.check_pair.result unselected (RightSelect (strip_of ws h.length) (strip_of vs g.length) c.args.k)
+    c.check_pair.ensures x c.in_ok-check_pair.was (right k.equal)
 
 pub returns-then-n-k : goal.returns-then-n-k
 returns-then-n-k c =
     let a = c.args in
-    passed (goal.at.returns-then-n-k c).In-Pass (unselected 6) (right_beyond a.xs.now a.ys.now a.strip.length a.waiting.length (known (goal.at.returns-then-n-k c).In-Pass).equal a.k c.if-n-k.true)
+    let ws = a.strip.words.now in
+    let vs = a.waiting.words.now in
+    passed (goal.at.returns-then-n-k c).In_ok-check_pair (unselected 6) (λ e.
+    right_beyond ws vs a.strip.handle.length a.waiting.handle.length e a.k c.if-n-k.true)
 
-pub overflow_add-n : goal.overflow_add-n
-overflow_add-n c = omega (arith, (known (goal.at.overflow_add-n c).In-Pass).most)
-
-pub waiting_places-p-requires : goal.waiting_places-p-requires
-waiting_places-p-requires c = let k = known (goal.at.waiting_places-p-requires c).In-Pass in omega (arith, k.in_words, k.in_others, k.most)
-
-pub returns-then-n-p : goal.returns-then-n-p
-returns-then-n-p c =
+pub returns-in_default : goal.returns-in_default
+returns-in_default c =
     let a = c.args in
-    let p = c.waiting_places-p in
-    passed (goal.at.returns-then-n-p c).In-Pass (unselected 6)
-    (right_none a.xs.now a.ys.now a.strip.length a.waiting.length (known (goal.at.returns-then-n-p c).In-Pass).equal a.k ((a.strip.length + 63) / 64) p.result.earliest p.result.latest (omega arith)
-    p.ensures.0 p.ensures.1 c.if-n-p.true)
+    let ws = a.strip.words.now in
+    let vs = a.waiting.words.now in
+    let n = a.strip.handle.length in
+    passed (goal.at.returns-in_default c).In_ok-check_pair (unselected 6) (λ e.
+    right_none ws vs n a.waiting.handle.length e a.k
+    (kth_none (may_bit ws vs) n (64 * ((n + 63) / 64)) a.k (omega arith) c.in_default.ensures))
 
-pub returns-in-Refuse : goal.returns-in-Refuse
-returns-in-Refuse c =
-    let a = c.args in
-    let v = c.check_pair in
-    right_refused (pair_lines a.strip (length a.xs.now) a.waiting (length a.ys.now)) v.result unselected
-    (RightSelect (strip_of a.xs.now a.strip.length) (strip_of a.ys.now a.waiting.length) a.k) v.ensures c.in-Refuse.r c.in-Refuse.is
+pub returns-then-n-a : goal.returns-then-n-a
+returns-then-n-a c =
+    let x = c.args in
+    let ws = x.strip.words.now in
+    let vs = x.waiting.words.now in
+    let n = x.strip.handle.length in
+    passed (goal.at.returns-then-n-a c).In_ok-check_pair (unselected 6) (λ e.
+    right_none ws vs n x.waiting.handle.length e x.k
+    (kth_past (may_bit ws vs) n (64 * ((n + 63) / 64)) x.k (omega arith) c.in-Some.a c.in-Some.ensures.0 c.if-n-a.true))
 
-pub returns-then-p-n : goal.returns-then-p-n
-returns-then-p-n c =
-    let a = c.args in
-    let p = c.waiting_places-p in
-    passed (goal.at.returns-then-p-n c).In-Pass (from_to p.result.earliest p.result.latest)
-    (right_to a.xs.now a.ys.now a.strip.length a.waiting.length (known (goal.at.returns-then-p-n c).In-Pass).equal a.k ((a.strip.length + 63) / 64) p.result.earliest p.result.latest (omega arith)
-    p.ensures.0 p.ensures.1 (omega (arith, c.if-n-p.false)) c.if-p-n.true)
+pub returns-in-Some-b : goal.returns-in-Some-b
+returns-in-Some-b c =
+    let x = c.args in
+    let ws = x.strip.words.now in
+    let vs = x.waiting.words.now in
+    let n = x.strip.handle.length in
+    let m = 64 * ((n + 63) / 64) in
+    let at = kth_below (may_bit ws vs) n m x.k (omega arith) c.in-Some.a c.in-Some.ensures.0 (omega (arith, c.if-n-a.false)) in
+    passed (goal.at.returns-in-Some-b c).In_ok-check_pair (from_to c.in-Some.a c.in-Some-b.p) (λ e.
+    right_to ws vs n x.waiting.handle.length e x.k c.in-Some.a at c.in-Some-b.p
+    (kth_below (must_bit ws vs) n m x.k (omega arith) c.in-Some-b.p (rw c.in-Some-b.is at c.in-Some.ensures.1) c.if-p-n.true))
 
-pub returns-else-p-n : goal.returns-else-p-n
-returns-else-p-n c =
-    let a = c.args in
-    let p = c.waiting_places-p in
-    passed (goal.at.returns-else-p-n c).In-Pass (from_on p.result.earliest)
-    (right_on a.xs.now a.ys.now a.strip.length a.waiting.length (known (goal.at.returns-else-p-n c).In-Pass).equal a.k ((a.strip.length + 63) / 64) p.result.earliest p.result.latest (omega arith)
-    p.ensures.0 p.ensures.1 (omega (arith, c.if-n-p.false)) c.if-p-n.false)
+pub returns-in_default-b : goal.returns-in_default-b
+returns-in_default-b c =
+    let x = c.args in
+    let ws = x.strip.words.now in
+    let vs = x.waiting.words.now in
+    let n = x.strip.handle.length in
+    let m = 64 * ((n + 63) / 64) in
+    let at = kth_below (may_bit ws vs) n m x.k (omega arith) c.in-Some.a c.in-Some.ensures.0 (omega (arith, c.if-n-a.false)) in
+    passed (goal.at.returns-in_default-b c).In_ok-check_pair (from_on c.in-Some.a) (λ e.
+    right_on ws vs n x.waiting.handle.length e x.k c.in-Some.a at
+    (kth_past (must_bit ws vs) n m x.k (omega arith) c.in-Some-b.p (rw c.in-Some-b.is at c.in-Some.ensures.1) c.if-p-n.false))
+
+pub returns-in_default-b-2 : goal.returns-in_default-b-2
+returns-in_default-b-2 c =
+    let x = c.args in
+    let ws = x.strip.words.now in
+    let vs = x.waiting.words.now in
+    let n = x.strip.handle.length in
+    let m = 64 * ((n + 63) / 64) in
+    let at = kth_below (may_bit ws vs) n m x.k (omega arith) c.in-Some.a c.in-Some.ensures.0 (omega (arith, c.if-n-a.false)) in
+    passed (goal.at.returns-in_default-b-2 c).In_ok-check_pair (from_on c.in-Some.a) (λ e.
+    right_on ws vs n x.waiting.handle.length e x.k c.in-Some.a at
+    (kth_none (must_bit ws vs) n m x.k (omega arith) (rw c.in_default-b.is at c.in-Some.ensures.1)))

@@ -2,6 +2,7 @@
 use Rattle.std.proofs.Common.{◌≡◌, ℕ, ◌+◌, ◌-◌, ◌^◌, ◌≤◌, sym, ap, ◌∙◌, ap₂, arith, pow_mono}
 use lib.Bits.{bit_and, bit_or}
 use Rattle.words.specs.Working.{WordPut}
+use Rattle.words.specs.Strip.{as_bit}
 use Rattle.words.proofs.BitLaws.{mask, mask_is}
 use Rattle.words.proofs.WordLaws.{written_set, written_clear}
 use Rattle.words.proofs.bits.put_range.Goals as goal
@@ -23,21 +24,21 @@ made c =
 upto : (a e : ℕ) → a ≤ e → a + (e - a) ≡ e
 upto a e h = omega arith
 
-pub returns-then-v-eq1 : goal.returns-then-v-eq1
-returns-then-v-eq1 c =
+pub returns-then-v : goal.returns-then-v
+returns-then-v c =
     let x : ℕ = c.args.x in
     let a : ℕ = c.args.a in
     let e : ℕ = c.args.e in
     let w : WordPut x a e 1 (bit_or x (mask (e - a) a)) = rw (upto a e c.requires.0) at (written_set x (e - a) a) in
-    let v : 1 ≡ c.args.v = sym c.if-v-eq1.true in
-    mathlib.Core.Path.subst₂ (λ (b r : ℕ). WordPut x a e b r) v (ap (bit_or x) (sym (made (goal.at.returns-then-v-eq1 c).After-low_mask-2))) w
+    let v : 1 ≡ as_bit c.args.v = ap as_bit (sym c.if-v.true) in
+    mathlib.Core.Path.subst₂ (λ (b r : ℕ). WordPut x a e b r) v (ap (bit_or x) (sym (made (goal.at.returns-then-v c).After-low_mask-2))) w
 
-pub returns-else-v-eq1 : goal.returns-else-v-eq1
-returns-else-v-eq1 c =
+pub returns-else-v : goal.returns-else-v
+returns-else-v c =
     let x : ℕ = c.args.x in
     let a : ℕ = c.args.a in
     let e : ℕ = c.args.e in
     let w : WordPut x a e 0 (bit_and x ((2 ^ 64 - 1) - mask (e - a) a)) =
     rw (upto a e c.requires.0) at (written_clear x (e - a) a c.ranges.x.fits (omega arith)) in
-    let v : 0 ≡ c.args.v = omega arith in
-    mathlib.Core.Path.subst₂ (λ (b r : ℕ). WordPut x a e b r) v (ap (λ (m : ℕ). bit_and x ((2 ^ 64 - 1) - m)) (sym (made (goal.at.returns-else-v-eq1 c).After-low_mask-2))) w
+    let v : 0 ≡ as_bit c.args.v = ap as_bit (sym c.if-v.false) in
+    mathlib.Core.Path.subst₂ (λ (b r : ℕ). WordPut x a e b r) v (ap (λ (m : ℕ). bit_and x ((2 ^ 64 - 1) - m)) (sym (made (goal.at.returns-else-v c).After-low_mask-2))) w

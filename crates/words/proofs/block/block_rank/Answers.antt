@@ -14,12 +14,6 @@ loop-j-init c =
     let e : min (64 * 0) a.m ≡ 0 = omega arith in
     (omega arith, sym (ap (ones (bit_at a.block.now)) e ∙ sum_zero (bit_at a.block.now)))
 
-pub offset_bounds-block-j : goal.offset_bounds-block-j
-offset_bounds-block-j c = omega arith
-
-pub bounds-block-j : goal.bounds-block-j
-bounds-block-j c = omega arith
-
 -- the ones with those of word j
 next : (c : After-ones_of-sum)
     → c.loop-j.sum + c.ones_of-sum.result
@@ -37,17 +31,5 @@ overflow_add-sum c =
     let loop = c.loop-j in
     omega (arith, next (goal.at.overflow_add-sum c).After-ones_of-sum, ones_le (bit_at a.block.now) (min (64 * (loop.j + 1)) a.m) (bit_at_le a.block.now))
 
-pub overflow_step-j : goal.overflow_step-j
-overflow_step-j c = omega arith
-
-pub loop-j-smaller : goal.loop-j-smaller
-loop-j-smaller c = omega arith
-
 pub loop-j-preserved : goal.loop-j-preserved
 loop-j-preserved c = (omega arith, next (goal.at.loop-j-preserved c).After-ones_of-sum)
-
-pub returns : goal.returns
-returns c =
-    let a = c.args in
-    let e : min (64 * c.loop-j.j) a.m ≡ a.m = omega arith in
-    c.loop-j.invariant.1 ∙ ap (ones (bit_at a.block.now)) e

@@ -1,28 +1,13 @@
 -- `words::span::span_ones` meets its contract: the ones before each end, by the word that it lies in. Assumes nothing.
-use Rattle.std.proofs.Common.{◌≡◌, ℕ, ◌+◌, ◌-◌, ◌*◌, ◌/◌, ◌%◌, ◌≤◌, get_or, ap, ◌∙◌, le_refl, add-zero, arith}
+use Rattle.std.proofs.Common.{◌≡◌, ℕ, ◌+◌, ◌-◌, ◌*◌, ◌/◌, ◌%◌, ◌≤◌, get_or, ap, ◌∙◌, le_refl, arith}
 use Rattle.words.specs.Bits.{bit, bit_at, ones}
 use Rattle.words.specs.Handles.{most_bits}
 use Rattle.words.proofs.Sums.{sum_mono, ones_le}
 use Rattle.words.proofs.BitLaws.{masked_is}
-use Rattle.words.proofs.WordLaws.{bit_at_le, ones_before}
+use Rattle.words.proofs.WordLaws.{bit_at_le, ones_before, slice_ones}
 use Rattle.words.proofs.SpanLaws.{span_counted}
 use Rattle.words.proofs.span.span_ones.Goals as goal
 use Rattle.words.proofs.span.span_ones.Goals.{After-ones_of, After-ones_of-3, After-ones_of-under, After-words_ones}
-
-pub returns-then-a-b : goal.returns-then-a-b
-returns-then-a-b c =
-    let a = c.args in
-    span_counted a.words.now a.a a.b 0 most_bits c.requires.2
-    (add-zero (ones (bit_at a.words.now) a.a) ∙ ap (ones (bit_at a.words.now)) c.if-a-b.true)
-
-pub offset_bounds-words-from : goal.offset_bounds-words-from
-offset_bounds-words-from c = omega arith
-
-pub bounds-words-from : goal.bounds-words-from
-bounds-words-from c = omega arith
-
-pub low_mask-requires : goal.low_mask-requires
-low_mask-requires c = omega arith
 
 -- `under` is the ones of the first word below a
 below : (c : After-ones_of-under)
@@ -41,9 +26,6 @@ first : (c : After-ones_of-under) (below : let a = c.args in
 first c below =
     let a = c.args in
     omega (arith, below, ones_before a.words.now (a.a / 64) (a.a % 64) a.a (omega arith) (omega arith))
-
-pub low_mask-requires-then-from-to : goal.low_mask-requires-then-from-to
-low_mask-requires-then-from-to c = omega arith
 
 -- both ends in one word: its ones below b
 upto : (c : After-ones_of)
@@ -76,12 +58,6 @@ overflow_sub-sum c =
     let m : a.a % 64 ≤ 64 = omega arith in
     omega (arith, below (goal.at.overflow_sub-sum c).After-ones_of-under, c.ones_of-2.ensures, sum_mono (bit (get_or a.words.now (a.a / 64) 0)) m)
 
-pub overflow_add-from : goal.overflow_add-from
-overflow_add-from c = omega arith
-
-pub words_ones-requires : goal.words_ones-requires
-words_ones-requires c = omega arith
-
 -- whole words from that of a on: the ones before the last word
 whole : (c : After-words_ones) (below : let a = c.args in
     c.ones_of-under.result ≡ ones (bit (get_or a.words.now (a.a / 64) 0)) (a.a % 64)) (first : let a = c.args in
@@ -97,7 +73,7 @@ whole c below first =
     let l : c.ones_of-under.result ≤ c.ones_of-2.result = omega (arith, below, c.ones_of-2.ensures, sum_mono (bit (get_or ws (a.a / 64) 0)) m) in
     let e : 64 * (a.a / 64 + 1) ≡ 64 * (a.a / 64) + 64 = omega arith in
     let next = ones_before ws (a.a / 64) 64 (64 * (a.a / 64 + 1)) (le_refl 64) e in
-    (l, omega (arith, l, first, next, c.ones_of-2.ensures, c.words_ones.ensures))
+    (l, omega (arith, l, first, next, c.ones_of-2.ensures, c.words_ones.ensures, slice_ones ws (a.a / 64 + 1) (a.b / 64) (omega arith) (omega arith)))
 
 pub overflow_add-sum : goal.overflow_add-sum
 overflow_add-sum c =
@@ -110,15 +86,6 @@ returns-then-b-eq0 c =
     let e : 64 * (a.b / 64) ≡ a.b = omega arith in
     span_counted a.words.now a.a a.b ((c.ones_of-2.result - c.ones_of-under.result + c.words_ones.result)) most_bits c.requires.2
     ((whole (goal.at.returns-then-b-eq0 c).After-words_ones (below (goal.at.returns-then-b-eq0 c).After-ones_of-under) (first (goal.at.returns-then-b-eq0 c).After-ones_of-under (below (goal.at.returns-then-b-eq0 c).After-ones_of-under))).1 ∙ ap (ones (bit_at a.words.now)) e)
-
-pub offset_bounds-words-to : goal.offset_bounds-words-to
-offset_bounds-words-to c = omega arith
-
-pub bounds-words-to : goal.bounds-words-to
-bounds-words-to c = omega arith
-
-pub low_mask-requires-2 : goal.low_mask-requires-2
-low_mask-requires-2 c = omega arith
 
 -- and those of the last word below b
 last : (c : After-ones_of-3)

@@ -1,7 +1,0 @@
--- `bursts::search::try_eight` meets its contract. The invariant: no start before word j + i serves, and what the window there holds. Assumes nothing.
-use Prim.Native.Nat.{◌+◌, ◌*◌, ◌≤◌}
-use Rattle.bursts.proofs.WindowLaws.{Passed}
-use Rattle.bursts.proofs.search.try_eight.Given as goal
-
-abbrev pub invariant-loop-i : goal.invariant-loop-i
-invariant-loop-i l = (l.i ≤ 8) × Passed l.words l.w l.m (64 * l.j) (64 * (l.j + l.i)) l.count

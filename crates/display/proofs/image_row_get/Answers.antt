@@ -1,7 +1,0 @@
--- `display::image_row_get` meets its contract: it is that of `row_get`, then that of `coded`. Assumes nothing.
-use mathlib.Core.Path.{ap, ◌∙◌}
-use Rattle.words.specs.Refusals.{coded}
-use Rattle.display.proofs.image_row_get.Goals as goal
-
-pub returns : goal.returns
-returns c = c.coded.ensures ∙ ap coded c.row_get.ensures

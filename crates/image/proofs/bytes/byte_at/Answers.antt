@@ -1,9 +1,0 @@
--- `image::bytes::byte_at` meets its contract. Assumes nothing.
-use native.Mathlib.Omega.{arith}
-use Rattle.image.proofs.bytes.byte_at.Goals as goal
-
-pub overflow_cast-result : goal.overflow_cast-result
-overflow_cast-result c = omega (arith, c.shared_slice_known-1.given c.args.at)
-
-pub returns : goal.returns
-returns c = omega (arith, c.shared_slice_known-1.given c.args.at)
