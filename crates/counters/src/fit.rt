@@ -25,6 +25,7 @@ fn node_fits(counters: &[u32], at: usize, j: usize, children: [u32; CHILDREN]) -
 }
 
 // Whether level t + 1, which is `level`, is as laid over level t, which is `below`.
+// Kept: words, counters, t and below apart, as `child_ones` takes them.
 fn level_fits(words: &[u64], counters: &[u32], t: usize, below: Level, level: Level) -> bool
     requires { Ready words.now counters.now t below level }
     ensures { Decides result

@@ -37,7 +37,7 @@ fn move_node(node: &mut [u32], steps: &[u32], c: usize) -> usize
 }
 
 // Adds d to the counters that count stroke p, level by level from the lowest, and answers their number. One node at a time is lent on.
-// Kept: counters and blocks apart, since a `Tree` lends its counters to be read alone; one that lends them to be written would serve this one call.
+// Kept: counters and blocks apart, since a `Tree` lends its counters to be read alone; one that lends them to be written would serve this call and `build_counters`.
 pub fn move_path(counters: &mut [u32], blocks: usize, p: usize, d: u32) -> usize
     requires { TreeOver blocks counters.old × (p < 512 * blocks) }
     ensures { (result ≡ change_count blocks p) × PathMovedBy blocks p d counters.old counters.new }

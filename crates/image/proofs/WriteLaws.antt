@@ -23,7 +23,7 @@ use Rattle.image.specs.Kinds.{Kind}
 use Rattle.image.specs.Layout.{unit_bytes, head_bytes, most_row, superblock_blocks, superblock_bytes, superblocks_of, entries_bytes, pad_bytes, bits_start, size_of, entry_of, entries_from, zeros, bytes_of, record_of}
 use Rattle.image.specs.Rows.{row_bits, Right}
 use Rattle.image.specs.Chain.{header_of}
-use Rattle.image.specs.Writing.{block_cells, BitsPut, CountedPut, SuperblockPut, RowPut}
+use Rattle.image.specs.Writing.{word_cells, block_cells, BitsPut, CountedPut, SuperblockPut, RowPut}
 use Rattle.image.proofs.KindLaws.{KindFits, EntryTells, times_more, bytes_all, superblocks_cover, superblock_begins, pad_ends}
 use Rattle.image.proofs.CountLaws.{counts_all, Counting, counting_none, counting_more}
 use Rattle.image.proofs.PutLaws.{length_le, le_small, num_of, sets_join, sets_comm, sets_front}
@@ -457,14 +457,30 @@ module _ (g : ℕ → ℕ) (at : ℕ) (s : List ℕ) where
   bits_le t m r x h = omega (arith, x.count, ones_le g (8 * m) h)
 
 -- a block before the length
-pub block_whole : (ws : List ℕ) (n b : ℕ) (block : List ℕ) (p : ℕ) → block ≡ take 8 (drop (8 * b) ws) → 512 * b + 512 ≤ n → p < 512
-    → bit_at block p ≡ block_cells (strip_of ws n) b p
-block_whole ws n b block p e h l =
-    ap (λ (x : List ℕ). bit_at x p) e ∙ block_bit ws b 8 p refl l ∙ sym (strip_cell ws n (512 * b + p) (omega arith))
+pub block_whole : (ws : List ℕ) (n w at : ℕ) (s t block : List ℕ) (r : ℕ) → 64 * w + 512 ≤ n
+    → ((j : ℕ) → j < 8 → get_or block j 0 ≡ get_or ws (w + j) 0) → BitsPut (bit_at block) 64 at s t r → BitsPut (word_cells (strip_of ws n) w) 64 at s t r
+block_whole ws n w at s t block r h words x =
+    bits_ext (word_cells (strip_of ws n) w) at s (bit_at block) t 64 r x
+    (λ p l.
+    let e : 64 * (w + p / 64) + p % 64 ≡ 64 * w + p = omega arith in
+    ap (λ (v : ℕ). bit v (p % 64)) (words (p / 64) (omega arith))
+    ∙ word_all ws n (w + p / 64) (p % 64) (omega arith) (omega arith)
+    ∙ ap (cell (strip_of ws n)) e)
 
 -- a block past it
-pub block_past : (ws : List ℕ) (n b p : ℕ) → n ≤ 512 * b → 0 ≡ block_cells (strip_of ws n) b p
-block_past ws n b p h = sym (strip_past ws n (512 * b + p) (omega arith))
+pub block_past : (ws : List ℕ) (n w at : ℕ) (s t : List ℕ) → n ≤ 64 * w → BitsPut (λ p. 0) 64 at s t 0 → BitsPut (word_cells (strip_of ws n) w) 64 at s t 0
+block_past ws n w at s t h x =
+    bits_ext (word_cells (strip_of ws n) w) at s (λ p. 0) t 64 0 x (λ p l. sym (strip_past ws n (64 * w + p) (omega arith)))
+
+-- a bit of a block before the length
+pub block_cell : (ws : List ℕ) (n b : ℕ) (block : List ℕ) (p : ℕ) → block ≡ take 8 (drop (8 * b) ws) → 512 * b + 512 ≤ n → p < 512
+    → bit_at block p ≡ block_cells (strip_of ws n) b p
+block_cell ws n b block p e h l =
+    ap (λ (x : List ℕ). bit_at x p) e ∙ block_bit ws b 8 p refl l ∙ sym (strip_cell ws n (512 * b + p) (omega arith))
+
+-- a bit of a block past it
+pub block_cell_past : (ws : List ℕ) (n b p : ℕ) → n ≤ 512 * b → 0 ≡ block_cells (strip_of ws n) b p
+block_cell_past ws n b p h = sym (strip_past ws n (512 * b + p) (omega arith))
 
 -- zeros are the bytes of no ones
 zero_bytes : (m : ℕ) → replicate m 0 ≡ bytes_of (λ p. 0) m

@@ -47,7 +47,10 @@ pub record CountedPut (K : Kind) (g : ℕ → ℕ) (at : ℕ) (s t counts : List
   pub same : t ≡ sets s at (bytes_of g (superblock_bytes K))
   pub counted : BlockCounts K g counts
 
--- the bits of a strip from its block b on, and those of its superblock e
+-- the bits of a strip from word w on, from its block b on, and those of its superblock e
+abbrev pub word_cells : List ℕ → ℕ → ℕ → ℕ
+word_cells t w p = cell t (64 * w + p)
+
 abbrev pub block_cells : List ℕ → ℕ → ℕ → ℕ
 block_cells t b p = cell t (block_bits * b + p)
 

@@ -9,7 +9,7 @@ use super::scan::Joined;
 use words::{Handle, Refusal, Strip, UNTAKEN, check_strip, span_ones};
 
 // A span's answer as one number: the value, or 2^32 plus the refusal's number.
-// Kept: beside words `coded`: a trait for the two types of number would be longer than its one arm.
+// Kept: beside words `coded`: a trait for the two types of number would be longer than these lines.
 pub fn coded_span(d: Result<i64, Refusal>) -> i64
     ensures { result ≡ coded_span (spanned_of d) }
 {

@@ -8,6 +8,7 @@ use super::lanes::{lanes_at_most, prefix_counts};
 use super::table::select_in_byte;
 
 // The position of the k-th one of a word, k from 0, or 64 where it has too few.
+// Kept: 64, and not None: the sentence that it meets says 64 (docs/PROOF-MAP.md, the strip and its words).
 pub fn select_in_word(x: u64, k: usize) -> usize
     ensures { result ≡ select_in 64 x 1 k }
 {

@@ -4,6 +4,7 @@ ghost use Rattle.words.specs.Words.{select_in};
 ghost use Rattle.words.specs.Working.{SelectTable};
 
 // Entry k of byte b is the position of its k-th one, or 8 where it has none.
+// Kept: 8, and not None, as the sentence on the table has it, and so that an entry is one byte.
 static SELECT: [[u8; 8]; 256] = [
     [8, 8, 8, 8, 8, 8, 8, 8],
     [0, 8, 8, 8, 8, 8, 8, 8],
