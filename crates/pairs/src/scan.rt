@@ -85,7 +85,7 @@ impl<'a> Joined<'a> {
     }
 
     // The position of the k-th one, k from 0, from word `from` on, in the first `to` words. Inlined, so that the loops know the caller's rule.
-    #[inline]
+    #[inline(always)]
     pub fn place(self, from: usize, to: usize, k: usize) -> Option<usize>
         requires { (from ≤ to) × (to ≤ length self.xs.now) × (to ≤ length self.ys.now) × (to ≤ words_of most_bits) }
         ensures { KthOf (joined_bit (rule_of self.entry.rule) self.entry.xs.now self.entry.ys.now) (64 * to)
