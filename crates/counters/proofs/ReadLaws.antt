@@ -19,7 +19,7 @@ use Rattle.words.proofs.StripLaws.{strip_length, strip_rank, strip_total, strip_
 use Rattle.counters.specs.Tree.{blocks_of}
 use Rattle.counters.specs.Record.{Fits, AllFit, packed_words, built_counters}
 use Rattle.counters.specs.Promises.{AtMost, PlaceBelow}
-use Rattle.counters.specs.Working.{OnesHeld}
+use Rattle.counters.specs.Working.{OnesHeld, Decides}
 use Rattle.counters.specs.Calls.{checks, held_strip, rank_table, Ranked, select_table, Selected, fitting, verify_table, verify_told}
 use Rattle.counters.proofs.PromiseLaws.{promise_passed, promise_exact, Sizes, sizes, PassedRecord}
 use Rattle.counters.proofs.AfreshLaws.{built_fits, fits_total, fits_built}
@@ -152,13 +152,21 @@ root_total h ws cs r z right clean held =
     ∙ ap (ones (bit_at ws)) whole ∙ sum_flat (bit_at ws) h.length h.capacity z.long clean ∙ sym (strip_total ws h.length)
 
 -- where all else fits, the total decides
+pub total_decides : (h : Handle) (ws cs : List ℕ) (r : ℕ) → PastZero ws h.length → AllFit (bit_at ws) (blocks_of h.capacity) cs → r ≡ total_of (held_strip h ws)
+    → Decides (eqb r h.total) (Fits h ws cs)
+total_decides h ws cs r clean right e = go (eqb r h.total) refl
+  where
+    go : (b : Bool) → eqb r h.total ≡ b → Decides b (Fits h ws cs)
+    go true q = record { clean = clean; right = right; held = sym (eqb-true _ _ q) ∙ e }
+    go false q = λ f. eqb-false r h.total q (e ∙ sym f.held)
+
 pub total_fitting : (h : Handle) (ws cs : List ℕ) (r : ℕ) → Sizes h ws cs → ((k : ℕ) → get_or ws k 0 < 2 ^ 64) → PastZero ws h.length
     → AllFit (bit_at ws) (blocks_of h.capacity) cs → r ≡ total_of (held_strip h ws) → eqb r h.total ≡ fitting h ws cs
-total_fitting h ws cs r z small clean right e = go (eqb r h.total) refl
+total_fitting h ws cs r z small clean right e = go (eqb r h.total) (total_decides h ws cs r clean right e)
   where
-    go : (b : Bool) → eqb r h.total ≡ b → b ≡ fitting h ws cs
-    go true q = sym (fits_fitting h ws cs z small (record { clean = clean; right = right; held = sym (eqb-true _ _ q) ∙ e }))
-    go false q = sym (unfit_fitting h ws cs z (λ f. eqb-false r h.total q (e ∙ sym f.held)))
+    go : (b : Bool) → Decides b (Fits h ws cs) → b ≡ fitting h ws cs
+    go true f = sym (fits_fitting h ws cs z small f)
+    go false n = sym (unfit_fitting h ws cs z n)
 
 -- the table, where the checks pass, by the test
 verify_judged : (h : Handle) (ws cs : List ℕ) (b : Bool) → judge (checks h (length ws) (length cs)) ≡ none → fitting h ws cs ≡ b

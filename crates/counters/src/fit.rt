@@ -4,7 +4,7 @@ ghost use Rattle.std.proofs.Math.Option.{none};
 ghost use Rattle.words.specs.Bits.{bit_at};
 ghost use Rattle.words.specs.Refusals.{judge};
 ghost use Rattle.counters.specs.Calls.{checks, fitting};
-ghost use Rattle.counters.specs.Record.{AllFit};
+ghost use Rattle.counters.specs.Record.{AllFit, Fits};
 ghost use Rattle.counters.specs.Working.{Decides};
 ghost use Rattle.counters.specs.Building.{Ready, child_holds, NodeAt, LevelFrom};
 
@@ -67,7 +67,7 @@ impl<'a> Tree<'a> {
 // Whether a record that passes the checks fits: no bit stands past the length, every counter is as defined, and the total is the ones held.
 pub fn record_fits(h: Handle, words: &[u64], counters: &[u32]) -> bool
     requires { judge (checks h (length words.now) (length counters.now)) ≡ none }
-    ensures { result ≡ fitting h words.now counters.now }
+    ensures { (result ≡ fitting h words.now counters.now) × Decides result (Fits h words.now counters.now) }
 {
     let blocks = h.capacity / BLOCK_BITS;
     if first_from(words, h.capacity, true, h.length).is_some() {

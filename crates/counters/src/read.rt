@@ -68,13 +68,17 @@ impl<'a> Record<'a> {
     pub fn verify(self) -> Result<u64, Refusal>
         ensures { told_of result ≡ verify_told self.entry.strip.handle self.entry.strip.words.now self.entry.counters.now }
     {
-        let h = self.strip.handle;
-        let words = self.strip.words;
-        let counters = self.counters;
-        check_record(h, words.len(), counters.len())?;
-        if !record_fits(h, words, counters) {
-            return Err(Refusal::Unfit);
-        }
-        Ok(h.total as u64)
+        verified(self.strip.handle, self.strip.words, self.counters)
     }
+}
+
+// The same of a record's parts: that each word is a u64 is known of a buffer that is a parameter, and not of a field.
+fn verified(h: Handle, words: &[u64], counters: &[u32]) -> Result<u64, Refusal>
+    ensures { told_of result ≡ verify_told h words.now counters.now }
+{
+    check_record(h, words.len(), counters.len())?;
+    if !record_fits(h, words, counters) {
+        return Err(Refusal::Unfit);
+    }
+    Ok(h.total as u64)
 }

@@ -204,6 +204,12 @@ pub record Storing (s₀ : List ℕ) (n v : ℕ) (s : List ℕ) (i rest : ℕ) :
   pub within : i ≤ n
   pub same : sets s i (le (n - i) rest) ≡ sets s₀ 0 (le n v)
 
+-- nothing is stored yet
+pub storing_none : (s : List ℕ) (n v : ℕ) → Storing s n v s 0 v
+storing_none s n v =
+    let e : n - 0 ≡ n = omega arith in
+    record { within = omega arith; same = ap (λ (k : ℕ). sets s 0 (le k v)) e }
+
 -- one byte more
 pub storing_more : (s₀ : List ℕ) (n v : ℕ) (s : List ℕ) (i rest x : ℕ) → Storing s₀ n v s i rest → i < n → x ≡ rest % 256
     → Storing s₀ n v (set s i x) (i + 1) (rest / 256)

@@ -120,6 +120,18 @@ standing_byte : (o : rust.Option ℕ) (x : ℕ) → RecordAt o x → unwrap_or o
 standing_byte None x z = sym z
 standing_byte (Some b) x z = z.0
 
+-- one byte, one record
+pub record_one : (o q : rust.Option ℕ) (x : ℕ) → RecordAt o x → RecordAt q x → o ≡ q
+record_one None None x z y = refl
+record_one None (Some b) x z y = absurd (omega (arith, z, y.0, y.1))
+record_one (Some a) None x z y = absurd (omega (arith, y, z.0, z.1))
+record_one (Some a) (Some b) x z y = ap Some (z.0 ∙ sym y.0)
+
+-- the record at byte `at`, or another, by a test
+pub record_or : (t : Bool) (at x : ℕ) (o : rust.Option ℕ) → (at ≡ 0 → ⊥) → RecordAt o x → RecordAt (cond t (Some at) o) (cond t at x)
+record_or true at x o n z = (refl, omega (arith, n))
+record_or false at x o n z = z
+
 -- a turn leaves less
 pub left_turn : (s : List ℕ) (a : ℕ) (o q : rust.Option ℕ) → o ≡ Some a → (a ≡ 0 → ⊥) → RecordFacts (kind_of s) s a → RecordAt q (unit_bytes * next_at s a)
     → left (length s) (unwrap_or q 0) < left (length s) (unwrap_or o 0)
@@ -300,3 +312,11 @@ scan_facts s label r scan e d = go (chain_of s) refl (sym d ∙ e)
           ended = rw r cc;
           placed = rw r cc;
         }
+
+-- one that is refused
+pub scan_none : (s : List ℕ) (label : ℕ) (r : Refusal) → Err r ≡ scan_of s label → (chain_of s ≡ none) × (r ≡ Unsound)
+scan_none s label r e = go (chain_of s) refl e
+  where
+    go : (o : Option (List ℕ)) → chain_of s ≡ o → ◌≡◌ {A = Result Scan Refusal} (Err r) (scanned s label o) → (chain_of s ≡ none) × (r ≡ Unsound)
+    go none p q = (p, cc)
+    go (some rs) p q = no_confusion cc

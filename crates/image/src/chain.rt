@@ -4,7 +4,7 @@ ghost use Rattle.image.specs.Chain.{kind_of, sound_header, sound_record};
 ghost use Rattle.image.specs.Walk.{scan_of};
 
 use super::bytes::{index_at, u64_at};
-use super::fields::{fields_good, first_record, label_at, next_record, record_end};
+use super::fields::{fields_good, first_record, label_at, next_record, record_at, record_end};
 use super::layout::{
     HEAD_BYTES, KIND, KIND_OFFSET, MOST_LABEL, UNIT_BYTES, ZEROS_OFFSET, size_good,
 };
@@ -67,7 +67,8 @@ pub fn scan_chain(image: &[u8], label: usize) -> Result<Scan, Refusal>
     let mut met = [false; MOST_LABEL + 1];
     let mut link: usize = 0;
     let mut end = UNIT_BYTES;
-    let mut found = None;
+    // Kept: a byte, 0 for none yet, and not an Option, whose flag each record would carry on.
+    let mut found: usize = 0;
     while let Some(at) = next {
         if !record_sound(image, at) {
             return Err(Refusal::Unsound);
@@ -78,11 +79,12 @@ pub fn scan_chain(image: &[u8], label: usize) -> Result<Scan, Refusal>
         }
         met[here] = true;
         if here == label {
-            found = Some(at);
+            found = at;
         }
         link = at;
         end = record_end(image, at);
         next = next_record(image, at);
     }
+    let found = record_at(found);
     Ok(Scan { link, end, found })
 }

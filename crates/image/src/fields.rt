@@ -10,13 +10,19 @@ use super::layout::{
     LABEL_OFFSET, LENGTH_OFFSET, MOST_ROW, ONES_OFFSET, UNIT_BYTES, label_good, record_size,
 };
 
+// The record that starts at a byte: none at byte 0, where the header stands.
+pub fn record_at(byte: usize) -> Option<usize>
+    ensures { RecordAt result byte }
+{
+    if byte == 0 { None } else { Some(byte) }
+}
+
 // The byte where the record starts that follows the one at byte `at`, or the header at byte 0.
 pub fn next_record(image: &[u8], at: usize) -> Option<usize>
     requires { at + head_bytes ≤ length image.now }
     ensures { RecordAt result (unit_bytes * next_at image.now at) }
 {
-    let next = UNIT_BYTES * index_at(image, at);
-    if next == 0 { None } else { Some(next) }
+    record_at(UNIT_BYTES * index_at(image, at))
 }
 
 // The byte where the first record starts.

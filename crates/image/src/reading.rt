@@ -169,7 +169,7 @@ impl<'a> Record<'a> {
         if position < n { Some(position) } else { None }
     }
 
-    // Whether the row's bits from position n on are zero, to the end of its last superblock: a word at a time, the first without its bits before n.
+    // Whether the row's bits from position n on are zero, to the end of its last superblock: those of the word that position n parts, then a word at a time.
     pub fn padding_zero(self) -> bool
         ensures { Decides result (PaddingZero kind1 self.entry.part.now self.entry.n) }
     {
@@ -177,8 +177,11 @@ impl<'a> Record<'a> {
         let n = self.n;
         let start = bits_start(n);
         let end = SUPERBLOCK_WORDS * superblocks_of(n);
-        for w in n / 64..end {
-            if u64_at(part, start + 8 * w) >> n.saturating_sub(64 * w) != 0 {
+        if n % 64 != 0 && u64_at(part, start + 8 * (n / 64)) >> (n % 64) != 0 {
+            return false;
+        }
+        for w in (n + 63) / 64..end {
+            if u64_at(part, start + 8 * w) != 0 {
                 return false;
             }
         }

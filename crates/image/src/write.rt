@@ -32,18 +32,6 @@ fn strip_word(words: &[u64], w: usize, n: usize) -> u64
     words[w]
 }
 
-// Block b of the first n bits of the words, zero past them, word by word.
-fn cut_block(words: &[u64], b: usize, n: usize) -> [u64; 8]
-    requires { (n ≤ 64 * length words.now) × (block_bits * b + block_bits ≤ most_row) }
-    ensures { (p : ℕ) → p < block_bits → bit_at result p ≡ block_cells (strip_of words.now n) b p }
-{
-    let mut block = [0u64; 8];
-    for j in 0..8 {
-        block[j] = strip_word(words, 8 * b + j, n);
-    }
-    block
-}
-
 // Stores a block of eight words from byte `at` on. Answers its ones. The words come by value: no store lies between their reads.
 fn put_block(bytes: &mut [u8], at: usize, block: [u64; 8]) -> usize
     requires { at + block_bytes ≤ length bytes.old }
@@ -66,7 +54,22 @@ fn put_zero_block(bytes: &mut [u8], at: usize)
     bytes[at..at + BLOCK_BYTES].fill(0);
 }
 
-// Stores block b of the first n bits of the words, zero past them, from byte `at` on. Answers its ones. Only a block in which the bits end is cut word by word.
+// Stores block b of the first n bits of the words, zero past them, word by word, from byte `at` on. Answers its ones.
+// Kept: beside `put_block`, with which the compiler would join it (docs/DECISIONS.md, The image).
+fn put_cut_block(bytes: &mut [u8], at: usize, words: &[u64], b: usize, n: usize) -> usize
+    requires { (at + block_bytes ≤ length bytes.old) × (n ≤ 64 * length words.now) × (block_bits * b + block_bits ≤ most_row) }
+    ensures { BitsPut (block_cells (strip_of words.now n) b) block_bytes at bytes.old bytes.new result }
+{
+    let mut sum: usize = 0;
+    for j in 0..8 {
+        let x = strip_word(words, 8 * b + j, n);
+        put_word(bytes, at + 8 * j, x);
+        sum += ones_of(x);
+    }
+    sum
+}
+
+// The same. Only a block in which the bits end goes word by word.
 fn put_strip_block(bytes: &mut [u8], at: usize, words: &[u64], b: usize, n: usize) -> usize
     requires { (at + block_bytes ≤ length bytes.old) × (n ≤ 64 * length words.now) × (block_bits * b + block_bits ≤ most_row) }
     ensures { BitsPut (block_cells (strip_of words.now n) b) block_bytes at bytes.old bytes.new result }
@@ -78,7 +81,7 @@ fn put_strip_block(bytes: &mut [u8], at: usize, words: &[u64], b: usize, n: usiz
         put_zero_block(bytes, at);
         return 0;
     }
-    put_block(bytes, at, cut_block(words, b, n))
+    put_cut_block(bytes, at, words, b, n)
 }
 
 // Stores the bits of superblock e of the first n bits of the words, from byte `at` on. Answers the ones up to the end of each of its blocks.

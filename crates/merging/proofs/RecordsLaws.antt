@@ -7,8 +7,6 @@ use native.Mathlib.Omega.{arith}
 use lib.ListN.{length, take, drop, length-append, length-drop}
 use lib.Seq.{sets, drop_at, take_all}
 use borrow.Author.Tests.{eq-eqb, ne_eqb}
-use Rattle.std.specs.Prelude.{nat_eq}
-use Rattle.std.specs.Cmp.Lexicographic.{pointwise}
 use Rattle.words.specs.Bits.{same}
 use Rattle.words.proofs.SameLaws.{same_eq, same_refl}
 use Rattle.image.specs.Bytes.{le}
@@ -172,14 +170,6 @@ record_copied K s a f kind part p out out1 out2 out3 at end after next label ea 
     }
 
 -- ---- two right rows
--- `==` of two lists of bytes
-pub pointwise_same : (xs ys : List ℕ) → pointwise nat_eq xs ys ≡ same xs ys
-unfolding same
-pointwise_same [] [] = refl
-pointwise_same [] (y ∷ ys) = refl
-pointwise_same (x ∷ xs) [] = refl
-pointwise_same (x ∷ xs) (y ∷ ys) = simp (pointwise_same xs ys)
-
 module _ (K : Kind) (s t : List ℕ) (a b : ℕ) (f : RightRecord s a) (g : RightRecord t b) (ks : kind_of s ≡ K) (kt : kind_of t ≡ K) (p q : List ℕ)
     (ep : p ≡ part_at (kind_of s) s a) (eq : q ≡ part_at (kind_of t) t b) where
   -- equal rows have equal bytes from the length on

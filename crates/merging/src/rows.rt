@@ -10,7 +10,7 @@ ghost use Rattle.image.specs.Shelf.{sizes_of, row_of};
 ghost use Rattle.merging.specs.Merged.{row_at, rows_of, unequal, conflict};
 ghost use Rattle.merging.specs.Working.{next_to, RightRecord, Places, IsPlaced, marked, unmarked, Measured, Copied};
 
-use super::copy::copy_words;
+use super::copy::{copy_words, words_equal};
 use image::{
     LABEL_OFFSET, LENGTH_OFFSET, MOST_LABEL, UNIT_BYTES, first_record, label_at, length_at,
     next_record, put_le, record_part, record_size,
@@ -38,7 +38,12 @@ fn rows_equal(first: &[u8], a: usize, second: &[u8], b: usize) -> bool
 {
     let p = record_part(first, a);
     let q = record_part(second, b);
-    p[LENGTH_OFFSET..] == q[LENGTH_OFFSET..]
+    let size = p.len();
+    if q.len() != size {
+        return false;
+    }
+    let words = (size - LENGTH_OFFSET) / 8;
+    words_equal(&p[LENGTH_OFFSET..], &q[LENGTH_OFFSET..], words)
 }
 
 // An image that obeys the layout, and where the record of each label starts.

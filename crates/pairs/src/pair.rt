@@ -29,21 +29,28 @@ fn check_equal(first: Handle, second: Handle) -> Result<(), Refusal>
     Ok(())
 }
 
-// The checks of a call on two strips: the first strip's 1, 2; the second's; 16.
-pub fn check_pair(first: Strip, second: Strip) -> Result<(), Refusal>
-    ensures { verdict_of result ≡ judge (pair_lines first.entry.handle (length first.entry.words.now) second.entry.handle (length second.entry.words.now)) }
+// The checks of a call on two strips: the first strip's 1, 2; the second's; 16. `words` and `others` are the numbers of words lent.
+// Kept: numbers, and no strips, since any numbers are judged and no word is read.
+pub fn check_pair(first: Handle, words: usize, second: Handle, others: usize) -> Result<(), Refusal>
+    ensures { verdict_of result ≡ judge (pair_lines first words second others) }
 {
-    check_strip(first.handle, first.words.len(), UNTAKEN)?;
-    check_strip(second.handle, second.words.len(), UNTAKEN)?;
-    check_equal(first.handle, second.handle)
+    check_strip(first, words, UNTAKEN)?;
+    check_strip(second, others, UNTAKEN)?;
+    check_equal(first, second)
 }
 
 // The checks of one that takes a position not above the length: those of two strips, then 4.
-pub fn check_pair_within(first: Strip, second: Strip, i: usize) -> Result<(), Refusal>
-    ensures { verdict_of result ≡ judge (pair_within_table first.entry.handle (length first.entry.words.now) second.entry.handle (length second.entry.words.now) i) }
+pub fn check_pair_within(
+    first: Handle,
+    words: usize,
+    second: Handle,
+    others: usize,
+    i: usize,
+) -> Result<(), Refusal>
+    ensures { verdict_of result ≡ judge (pair_within_table first words second others i) }
 {
-    check_pair(first, second)?;
-    if first.handle.length < i {
+    check_pair(first, words, second, others)?;
+    if first.length < i {
         return Err(Refusal::Position);
     }
     Ok(())
@@ -53,7 +60,9 @@ pub fn check_pair_within(first: Strip, second: Strip, i: usize) -> Result<(), Re
 fn check_pair_span(first: Strip, second: Strip, a: usize, b: usize) -> Result<(), Refusal>
     ensures { verdict_of result ≡ judge (pair_span_table first.entry.handle (length first.entry.words.now) second.entry.handle (length second.entry.words.now) a b) }
 {
-    check_pair(first, second)?;
+    let xs = first.words;
+    let ys = second.words;
+    check_pair(first.handle, xs.len(), second.handle, ys.len())?;
     if b < a {
         return Err(Refusal::Span);
     }
@@ -67,12 +76,10 @@ fn check_pair_span(first: Strip, second: Strip, a: usize, b: usize) -> Result<()
 pub fn pair_rank(rule: Rule, first: Strip, second: Strip, i: usize) -> Result<u64, Refusal>
     ensures { told_of result ≡ pair_rank_told (rule_of rule) first.entry.handle first.entry.words.now second.entry.handle second.entry.words.now i }
 {
-    check_pair_within(first, second, i)?;
-    let joined = Joined {
-        rule,
-        xs: first.words,
-        ys: second.words,
-    };
+    let xs = first.words;
+    let ys = second.words;
+    check_pair_within(first.handle, xs.len(), second.handle, ys.len(), i)?;
+    let joined = Joined { rule, xs, ys };
     Ok(joined.ones(i) as u64)
 }
 
@@ -80,16 +87,14 @@ pub fn pair_rank(rule: Rule, first: Strip, second: Strip, i: usize) -> Result<u6
 pub fn pair_select(rule: Rule, first: Strip, second: Strip, k: usize) -> Result<u64, Refusal>
     ensures { told_of result ≡ pair_select_told (rule_of rule) first.entry.handle first.entry.words.now second.entry.handle second.entry.words.now k }
 {
-    check_pair(first, second)?;
+    let xs = first.words;
+    let ys = second.words;
+    check_pair(first.handle, xs.len(), second.handle, ys.len())?;
     let n = first.handle.length;
     if n <= k {
         return Err(Refusal::NotFound);
     }
-    let joined = Joined {
-        rule,
-        xs: first.words,
-        ys: second.words,
-    };
+    let joined = Joined { rule, xs, ys };
     let Some(p) = joined.place(0, (n + 63) / 64, k) else {
         return Err(Refusal::NotFound);
     };

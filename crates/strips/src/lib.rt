@@ -28,4 +28,4 @@ pub use wait::{strip_waiting_count, strip_waiting_find};
 
 // For the exports of tests.
 pub use lent::handle_over;
-pub use record::{OUT_NUMBERS, write_change};
+pub use record::{OUT_NUMBERS, write_change, write_out};

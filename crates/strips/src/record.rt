@@ -53,7 +53,7 @@ pub fn strip_verify(capacity: u64, length: u64, total: u64, words: &[u64], count
 pub const OUT_NUMBERS: usize = 6;
 
 // Writes the six numbers.
-fn write_out(out: &mut [u64], refusal: u64, x: u64, y: u64, h: Handle)
+pub fn write_out(out: &mut [u64], refusal: u64, x: u64, y: u64, h: Handle)
     requires { out_numbers ≤ length out.old }
     ensures { out.new ≡ out_over (out_with refusal x y h) out.old }
 {

@@ -92,7 +92,8 @@ impl<'a> Marked<'a> {
     // The k-th misfire, k from 0, in the first `to` words: where it lies if every mark becomes one, and where if none does.
     pub fn places(self, to: usize, k: usize) -> Option<(usize, Option<usize>)>
         requires { (to ≤ length self.xs.now) × (to ≤ length self.ys.now) × (to ≤ words_of most_bits) }
-        ensures { MatchOption result (select_of (may_bit self.entry.xs.now self.entry.ys.now) (64 * to) 1 k ≡ none)
+        ensures { MatchOption result ((select_of (may_bit self.entry.xs.now self.entry.ys.now) (64 * to) 1 k ≡ none)
+            × (select_of (must_bit self.entry.xs.now self.entry.ys.now) (64 * to) 1 k ≡ none))
             (λ p. (select_of (may_bit self.entry.xs.now self.entry.ys.now) (64 * to) 1 k ≡ some p.0)
             × KthOf (must_bit self.entry.xs.now self.entry.ys.now) (64 * to) k p.1) }
     {
@@ -103,18 +104,24 @@ impl<'a> Marked<'a> {
             let x = self.xs[j];
             let y = self.ys[j];
             let either = join(Rule::Either, x, y);
+            let only = join(Rule::OnlyFirst, x, y);
             let most = ones_of(either);
+            let least = ones_of(only);
             if may < most {
                 let earliest = 64 * j + select_in_word(either, may);
+                if must < least {
+                    let latest = 64 * j + select_in_word(only, must);
+                    return Some((earliest, Some(latest)));
+                }
                 let sure = Joined {
                     rule: Rule::OnlyFirst,
                     xs: self.xs,
                     ys: self.ys,
                 };
-                return Some((earliest, sure.place(j, to, must)));
+                return Some((earliest, sure.place(j + 1, to, must - least)));
             }
             may -= most;
-            must -= ones_of(join(Rule::OnlyFirst, x, y));
+            must -= least;
         }
         None
     }

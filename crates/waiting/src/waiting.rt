@@ -16,11 +16,10 @@ pub struct Places {
 pub fn waiting_rank(strip: Strip, waiting: Strip, i: usize) -> Result<Counts, Refusal>
     ensures { WaitingRank strip.entry.handle strip.entry.words.now waiting.entry.handle waiting.entry.words.now i (rank_told_of result) }
 {
-    check_pair_within(strip, waiting, i)?;
-    let marked = Marked {
-        xs: strip.words,
-        ys: waiting.words,
-    };
+    let xs = strip.words;
+    let ys = waiting.words;
+    check_pair_within(strip.handle, xs.len(), waiting.handle, ys.len(), i)?;
+    let marked = Marked { xs, ys };
     Ok(marked.ones(i))
 }
 
@@ -28,15 +27,14 @@ pub fn waiting_rank(strip: Strip, waiting: Strip, i: usize) -> Result<Counts, Re
 pub fn waiting_select(strip: Strip, waiting: Strip, k: usize) -> Result<Places, Refusal>
     ensures { WaitingSelect strip.entry.handle strip.entry.words.now waiting.entry.handle waiting.entry.words.now k (select_told_of result) }
 {
-    check_pair(strip, waiting)?;
+    let xs = strip.words;
+    let ys = waiting.words;
+    check_pair(strip.handle, xs.len(), waiting.handle, ys.len())?;
     let n = strip.handle.length;
     if n <= k {
         return Err(Refusal::NotFound);
     }
-    let marked = Marked {
-        xs: strip.words,
-        ys: waiting.words,
-    };
+    let marked = Marked { xs, ys };
     let Some((a, b)) = marked.places((n + 63) / 64, k) else {
         return Err(Refusal::NotFound);
     };

@@ -55,6 +55,7 @@ fn word_count(x: u64, v: bool) -> usize
 
 // The position of the k-th v in a block, k from 0, or 512 where it has too few: the word that holds it, then the place there.
 // The word is found by the running counts of v, none of which waits for a comparison.
+// Kept: 512, and not None: with the word's 64 the sum is 512 with no test.
 pub fn block_select(block: &[u64; 8], v: bool, k: usize) -> usize
     ensures { result ≡ place_in 512 (select_of (bit_at block.now) 512 (as_bit v) k) }
 {

@@ -6,7 +6,8 @@ use Rattle.words.specs.Strip.{PastZero}
 use Rattle.words.specs.Bits.{bit_at}
 use Rattle.words.specs.Working.{NextAt, FirstFrom}
 use Rattle.counters.proofs.PromiseLaws.{sizes}
-use Rattle.counters.proofs.ReadLaws.{unfit_fitting, none_past, root_total, total_fitting}
+use Rattle.counters.specs.Record.{Fits}
+use Rattle.counters.proofs.ReadLaws.{unfit_fitting, none_past, root_total, total_decides, total_fitting}
 use Rattle.counters.proofs.fit.record_fits.Goals as goal
 
 -- what is found past the length is a one
@@ -24,14 +25,16 @@ returns-then-is_some c =
     let h = c.args.h in
     let ws = c.args.words.now in
     let cs = c.args.counters.now in
-    sym (unfit_fitting h ws cs (sizes h ws cs c.requires) (λ f. found (bit_at ws) h.capacity h.length _ c.first_from.ensures c.if-is_some.ensures f.clean))
+    let no : Fits h ws cs → ⊥ = λ f. found (bit_at ws) h.capacity h.length _ c.first_from.ensures c.if-is_some.ensures f.clean in
+    (sym (unfit_fitting h ws cs (sizes h ws cs c.requires) no), no)
 
 pub returns-then-not-fits : goal.returns-then-not-fits
 returns-then-not-fits c =
     let h = c.args.h in
     let ws = c.args.words.now in
     let cs = c.args.counters.now in
-    sym (unfit_fitting h ws cs (sizes h ws cs c.requires) (λ f. c.if-not-fits.ensures f.right))
+    let no : Fits h ws cs → ⊥ = λ f. c.if-not-fits.ensures f.right in
+    (sym (unfit_fitting h ws cs (sizes h ws cs c.requires) no), no)
 
 pub returns : goal.returns
 returns c =
@@ -40,5 +43,7 @@ returns c =
     let cs = c.args.counters.now in
     let z = sizes h ws cs c.requires in
     let clean : PastZero ws h.length = none_past h ws cs z (nothing (bit_at ws) h.capacity h.length _ c.first_from.ensures c.if-is_some.ensures) in
-    total_fitting h ws cs c.ones_held.result z (λ k. (c.type_inv.words k).fits) clean c.if-not-fits.ensures
-    (root_total h ws cs c.ones_held.result z c.if-not-fits.ensures clean c.ones_held.ensures.1)
+    let total = root_total h ws cs c.ones_held.result z c.if-not-fits.ensures clean c.ones_held.ensures.1 in (
+      total_fitting h ws cs c.ones_held.result z (λ k. (c.type_inv.words k).fits) clean c.if-not-fits.ensures total,
+      total_decides h ws cs c.ones_held.result clean c.if-not-fits.ensures total,
+    )

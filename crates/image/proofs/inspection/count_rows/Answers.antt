@@ -5,9 +5,9 @@ use Rattle.image.specs.Kinds.{kind1}
 use Rattle.image.specs.Chain.{kind_of}
 use Rattle.image.proofs.KindLaws.{one_kind}
 use Rattle.image.proofs.ChainLaws.{RecordFacts, chain_facts, some_in}
-use Rattle.image.proofs.WalkLaws.{standing_here, left_turn}
+use Rattle.image.proofs.WalkLaws.{standing_here, standing_end, left_turn}
 use Rattle.image.proofs.RowLaws.{part_room}
-use Rattle.image.proofs.InspectLaws.{Inspected, row_test, inspected_none, inspected_record, inspected_few, inspected_more, inspected_wrong, read_good, read_right}
+use Rattle.image.proofs.InspectLaws.{Inspected, row_test, inspected_none, inspected_record, inspected_few, inspected_more, inspected_wrong, inspected_done, read_good, read_right}
 use Rattle.image.proofs.inspection.count_rows.Goals as goal
 use Rattle.image.proofs.inspection.count_rows.Goals.{After-part_right, In-Some}
 
@@ -65,3 +65,6 @@ loop-next-preserved c =
       stands = c.next_record-next.ensures;
       holds = inspected_more w.0 w.1 _ refl (sym (judged (goal.at.loop-next-preserved c).After-part_right (known i)) ∙ c.if-not-part_right.false);
     }
+
+pub returns : goal.returns
+returns c = inspected_done (standing_end c.loop-next.invariant c.in_default.is) refl

@@ -1,8 +1,11 @@
 -- `image::put::put_le` meets its contract. The invariant: what is still to be stored makes the whole. Assumes nothing.
 use Rattle.std.proofs.Common.{◌+◌, ◌-◌, arith}
 use Rattle.image.specs.Bytes.{le}
-use Rattle.image.proofs.PutLaws.{part_stored, length_le, lent_length, storing_more, storing_done}
+use Rattle.image.proofs.PutLaws.{part_stored, length_le, lent_length, storing_none, storing_more, storing_done}
 use Rattle.image.proofs.put.put_le.Goals as goal
+
+pub loop-byte-init : goal.loop-byte-init
+loop-byte-init c = storing_none _ _ _
 
 pub loop-byte-preserved : goal.loop-byte-preserved
 loop-byte-preserved c =

@@ -3,8 +3,8 @@
 use Rattle.std.proofs.Common.{◌≡◌, refl, arith}
 use Rattle.image.specs.Chain.{kind_of}
 use Rattle.image.proofs.ChainLaws.{RecordFacts, chain_facts, some_in}
-use Rattle.image.proofs.WalkLaws.{standing_here, left_turn}
-use Rattle.image.proofs.QueryLaws.{Nearing, nearing_none, nearing_record, nearing_here, nearing_more}
+use Rattle.image.proofs.WalkLaws.{standing_here, standing_end, left_turn}
+use Rattle.image.proofs.QueryLaws.{Nearing, nearing_none, nearing_record, nearing_here, nearing_more, nearing_done}
 use Rattle.image.proofs.query.nth_label.Goals as goal
 use Rattle.image.proofs.query.nth_label.Goals.{In-Some}
 
@@ -42,3 +42,6 @@ pub loop-next-preserved : goal.loop-next-preserved
 loop-next-preserved c =
     let w = here (goal.at.loop-next-preserved c).In-Some in
     record { byte = _; stands = c.next_record-next.ensures; holds = nearing_more w.0 w.1 _ refl _ (omega (arith, c.if-left-eq0.false)) }
+
+pub returns : goal.returns
+returns c = nearing_done (standing_end c.loop-next.invariant c.in_default.is) refl

@@ -11,6 +11,3 @@ pub returns-then-n-b : goal.returns-then-n-b
 returns-then-n-b c =
     let a = c.args in
     bits_ext _ _ _ _ _ 64 _ c.put_zero_block.ensures (λ p l. block_cell_past a.words.now a.n a.b p c.if-n-b.true)
-
-pub returns : goal.returns
-returns c = bits_ext _ _ _ _ _ 64 _ c.put_block-2.ensures c.cut_block.ensures

@@ -2,13 +2,13 @@
 use Rattle.std.proofs.Common.{◌≡◌, sym, ◌∙◌, arith}
 use Rattle.image.specs.Chain.{kind_of}
 use Rattle.image.proofs.ChainLaws.{RecordFacts}
-use Rattle.image.proofs.WalkLaws.{standing_here, left_turn}
+use Rattle.image.proofs.WalkLaws.{standing_here, standing_end, left_turn}
 use Rattle.std.specs.Option.{option_copied}
 use Rattle.image.specs.Kinds.{kind1}
 use Rattle.image.proofs.KindLaws.{kind1_fits}
 use Rattle.merging.specs.Working.{marked}
 use Rattle.merging.proofs.RowsLaws.{obeys_least, row_walk_facts, row_walk_right}
-use Rattle.merging.proofs.LoopLaws.{CopyingRows, copying_rows_none, copying_rows_room, copying_rows_out, copying_rows_in}
+use Rattle.merging.proofs.LoopLaws.{CopyingRows, copying_rows_none, copying_rows_room, copying_rows_out, copying_rows_in, copying_rows_done}
 use Rattle.merging.proofs.rows.copy_rows.Goals as goal
 use Rattle.merging.proofs.rows.copy_rows.Goals.{In-Some, then-not-is_marked, else-not-is_marked}
 
@@ -61,3 +61,6 @@ loop-next-preserved c =
                 rw (u.out-is, u.at-is) (copying_rows_out kind1_fits w.0 w.1 (sym c.is_marked.ensures ∙ u.if-not-is_marked.false))
           ];
     }
+
+pub returns : goal.returns
+returns c = copying_rows_done (standing_end c.loop-next.invariant c.in_default.is)

@@ -2,9 +2,9 @@
 use Rattle.std.proofs.Common.{◌≡◌, arith}
 use Rattle.image.specs.Chain.{kind_of}
 use Rattle.image.proofs.ChainLaws.{RecordFacts}
-use Rattle.image.proofs.WalkLaws.{standing_here, left_turn}
+use Rattle.image.proofs.WalkLaws.{standing_here, standing_end, left_turn}
 use Rattle.merging.proofs.RowsLaws.{obeys_least, row_walk_facts}
-use Rattle.merging.proofs.LoopLaws.{Placing, placing_none, placing_more}
+use Rattle.merging.proofs.LoopLaws.{Placing, placing_none, placing_more, placing_done}
 use Rattle.merging.proofs.rows.set_places.Goals as goal
 use Rattle.merging.proofs.rows.set_places.Goals.{In-Some}
 
@@ -40,3 +40,6 @@ pub loop-next-preserved : goal.loop-next-preserved
 loop-next-preserved c =
     let w = here (goal.at.loop-next-preserved c).In-Some in
     record { byte = _; stands = c.next_record-next.ensures; holds = placing_more w.0 w.1 _ c.label_at.ensures.0 }
+
+pub returns : goal.returns
+returns c = placing_done (standing_end c.loop-next.invariant c.in_default.is)

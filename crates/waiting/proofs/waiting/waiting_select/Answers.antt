@@ -43,7 +43,7 @@ returns-in_default c =
     let n = a.strip.handle.length in
     passed (goal.at.returns-in_default c).In_ok-check_pair (unselected 6) (λ e.
     right_none ws vs n a.waiting.handle.length e a.k
-    (kth_none (may_bit ws vs) n (64 * ((n + 63) / 64)) a.k (omega arith) c.in_default.ensures))
+    (kth_none (may_bit ws vs) n (64 * ((n + 63) / 64)) a.k (omega arith) c.in_default.ensures.0))
 
 pub returns-then-n-a : goal.returns-then-n-a
 returns-then-n-a c =

@@ -1,8 +1,13 @@
 -- `bursts::window::Windows::first_below` meets its contract: the starts of whole words, then those of the last word with a start. Assumes nothing.
 use Rattle.std.proofs.Common.{ℕ, ◌-◌, ◌*◌, ◌/◌, ◌%◌, get_or, sym, arith}
 use Rattle.words.proofs.WordLaws.{word_bit}
-use Rattle.bursts.proofs.WindowLaws.{holds_le, last_start, last_none}
+use Rattle.bursts.proofs.WindowLaws.{holds_le, below_found, last_start, last_none}
 use Rattle.bursts.proofs.window.Windows.first_below.Goals as goal
+
+pub returns-in-Break : goal.returns-in-Break
+returns-in-Break c =
+    let s = c.args.self in
+    below_found s.words.now c.args.n s.w s.m (64 * ((c.args.n - s.w) / 64)) c.in-Break.start (omega arith) c.in-Break.ensures
 
 pub bounded_start-requires : goal.bounded_start-requires
 bounded_start-requires c =

@@ -1,7 +1,7 @@
 -- `bursts::window::Windows::search_words` meets its contract. The invariant: no start before word j serves, and what the window there holds. Assumes nothing.
 use Rattle.std.proofs.Common.{◌+◌, ◌*◌, arith}
 use Rattle.bursts.specs.Working.{Holds}
-use Rattle.bursts.proofs.WindowLaws.{holds_le, holds_bits, holds_word, holds_wider, passed_le, passed_more}
+use Rattle.bursts.proofs.WindowLaws.{holds_le, holds_bits, holds_word, holds_wider, passed_le, passed_more, searched_found, searched_none}
 use Rattle.bursts.proofs.window.Windows.search_words.Goals as goal
 use Rattle.bursts.proofs.window.Windows.search_words.Goals.{After-ones_of}
 
@@ -31,6 +31,10 @@ start_in_word-requires c =
       holds_wider s.words.now s.w (64 * c.loop-j.j) c.loop-j.count c.ones_of.result h (enters (goal.at.start_in_word-requires c).After-ones_of),
     )
 
+pub returns-in-Some : goal.returns-in-Some
+returns-in-Some c =
+    searched_found c.loop-j.invariant.2 (64 * (c.loop-j.j + 1)) (64 * c.args.to) c.in-Some.start c.in-Some.ensures (omega arith) (omega arith)
+
 pub overflow_sub-count : goal.overflow_sub-count
 overflow_sub-count c =
     passed_le c.loop-j.invariant.2 (64 * (c.loop-j.j + 1)) c.ones_of.result c.ones_of-in-loop-j.result (omega arith)
@@ -45,3 +49,6 @@ loop-j-preserved c = (
       (enters (goal.at.loop-j-preserved c).After-ones_of)
       (holds_word c.args.self.words.now c.loop-j.j c.ones_of-in-loop-j.result c.ones_of-in-loop-j.ensures) c.in_default.ensures,
 )
+
+pub returns : goal.returns
+returns c = searched_none c.loop-j.invariant.2 (64 * c.args.to) (omega arith)

@@ -1,7 +1,7 @@
 -- `bursts::window::Windows::try_eight` meets its contract. The invariant: no start before word j + i serves, and what the window there holds. Assumes nothing.
 use Rattle.std.proofs.Common.{◌+◌, ◌*◌, get_or, arith}
 use Rattle.bursts.specs.Working.{Holds}
-use Rattle.bursts.proofs.WindowLaws.{holds_le, holds_run, holds_wider, passed_le, passed_more}
+use Rattle.bursts.proofs.WindowLaws.{holds_le, holds_run, holds_wider, passed_le, passed_more, searched_found, searched_none}
 use Rattle.bursts.proofs.window.Windows.try_eight.Goals as goal
 use Rattle.bursts.proofs.window.Windows.try_eight.Goals.{In-loop-i}
 
@@ -40,6 +40,10 @@ start_in_word-requires c =
           (enters (goal.at.start_in_word-requires c).In-loop-i),
     )
 
+pub returns-in-Some : goal.returns-in-Some
+returns-in-Some c =
+    searched_found c.loop-i.invariant.1 (64 * (c.args.j + c.loop-i.i + 1)) (64 * (c.args.j + 8)) c.in-Some.start c.in-Some.ensures (omega arith) (omega arith)
+
 pub overflow_sub-count : goal.overflow_sub-count
 overflow_sub-count c =
     let at = (goal.at.overflow_sub-count c).In-loop-i in
@@ -52,3 +56,6 @@ loop-i-preserved c =
       passed_more c.loop-i.invariant.1 (64 * (c.args.j + (c.loop-i.i + 1))) _ _ (omega arith) (enters at) (leaves at)
           (λ s la lb. c.in_default.ensures s la (omega arith)),
     )
+
+pub returns : goal.returns
+returns c = searched_none c.loop-i.invariant.1 (64 * (c.args.j + 8)) (omega arith)

@@ -1,7 +1,7 @@
 -- `counters::shape::Tree::fits` meets its contract. The invariant: the levels 1 to t fit. Assumes nothing.
 use Rattle.std.proofs.Common.{◌<◌, arith, ap, not}
 use Rattle.counters.specs.Tree.{height}
-use Rattle.counters.proofs.BuildLaws.{upto_none, upto_room, upto_next, more_no, more_yes}
+use Rattle.counters.proofs.BuildLaws.{upto_none, upto_room, upto_next, more_no, more_yes, upto_all}
 use Rattle.counters.proofs.shape.Tree.fits.Goals as goal
 use Rattle.counters.proofs.shape.Tree.fits.Goals.{In-loop-t}
 
@@ -28,3 +28,6 @@ pub loop-t-preserved : goal.loop-t-preserved
 loop-t-preserved c =
     let l = c.loop-t in
     (l.invariant.0, more_yes l.invariant.1 (more (goal.at.loop-t-preserved c).In-loop-t) c.above-level.ensures c.level_fits.result c.level_fits.ensures (ap not c.if-not-level_fits.false))
+
+pub returns : goal.returns
+returns c = upto_all c.loop-t.invariant.1 (omega (arith, c.loop-t.invariant.0))

@@ -6,6 +6,7 @@ use Rattle.words.specs.Bits.{bit_at, ones}
 use Rattle.words.proofs.Sums.{sum_zero, ones_le}
 use Rattle.words.proofs.WordLaws.{bit_at_le}
 use Rattle.image.specs.Kinds.{kind1}
+use Rattle.image.proofs.KindLaws.{entry_inside, bytes_inside, kind1_fits}
 use Rattle.image.proofs.EntryLaws.{kind1_indexed}
 use Rattle.image.proofs.PartLaws.{bits_of, ones_there}
 use Rattle.image.proofs.reading.Record.ones_before.Goals as goal
@@ -16,6 +17,17 @@ returns-then-i-eq0 c =
     let a = c.args in
     let e : 0 ≡ a.i = omega arith in
     (omega arith, λ right. sym (sum_zero (bits_of kind1 a.self.part.now a.self.n)) ∙ ap (ones (bits_of kind1 a.self.part.now a.self.n)) e)
+
+pub block_at-block-requires : goal.block_at-block-requires
+block_at-block-requires c =
+    let a = c.args in
+    let m : ℕ = (a.i - 1) / 512 in
+    omega (arith, c.bits_start.ensures.0, bytes_inside kind1 kind1_fits a.self.n (64 * m + 64) (omega arith))
+
+pub entry_ones-requires : goal.entry_ones-requires
+entry_ones-requires c =
+    let a = c.args in
+    omega (arith, entry_inside kind1 a.self.n ((a.i - 1) / 512 / 8) (omega arith))
 
 -- a block has at most 512 ones
 in_block : (c : After-block_rank) → c.block_rank.result ≤ 512

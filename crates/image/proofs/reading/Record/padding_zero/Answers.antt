@@ -1,24 +1,51 @@
 -- `image::reading::Record::padding_zero` meets its contract. The invariant: the bits from n on, before word w, are zero. Assumes nothing.
-use Rattle.std.proofs.Common.{ℕ, ◌*◌, ap, ◌∙◌, arith}
+use Rattle.std.proofs.Common.{◌≡◌, ℕ, ◌*◌, ◌/◌, ◌^◌, ap, ◌∙◌, arith}
 use mathlib.Core.Logic.{⊎_elim}
 use Rattle.words.proofs.Sums.{lt_or}
 use Rattle.image.specs.Bytes.{bit_from}
 use Rattle.image.proofs.RightLaws.{shifted_none, shifted_some}
 use Rattle.image.proofs.reading.Record.padding_zero.Goals as goal
+use Rattle.image.proofs.reading.Record.padding_zero.Goals.{else-n-ne0-via-then-n-ne0+else-u64_at-n-ne0, else-n-ne0-via-else-n-ne0}
 
-pub returns-then-u64_at-saturating_sub-ne0 : goal.returns-then-u64_at-saturating_sub-ne0
-returns-then-u64_at-saturating_sub-ne0 c =
-    let l = c.loop-w in
+-- a one in the word that position n parts
+pub returns-then-u64_at-n-ne0 : goal.returns-then-u64_at-n-ne0
+returns-then-u64_at-n-ne0 c =
     let s = c.bits_start-start in
-    let a = c.args in
-    λ zeros. shifted_some a.self.part.now s.result l.w _ c.u64_at.result c.u64_at.ensures.1 (omega arith) c.if-u64_at-saturating_sub-ne0.true
-    (λ q k h. ap (λ (i : ℕ). bit_from a.self.part.now i q) s.ensures.0 ∙ zeros q (omega (arith, c.saturating_sub.ensures)) (omega arith))
+    let p = c.args.self.part.now in
+    let n = c.args.self.n in
+    λ zeros. shifted_some p s.result (n / 64) _ c.u64_at.result c.u64_at.ensures.1 (omega arith) c.if-u64_at-n-ne0.true
+    (λ q k h. ap (λ (i : ℕ). bit_from p i q) s.ensures.0 ∙ zeros q (omega arith) (omega (arith, c.if-n-ne0.true, c.superblocks_of-end.ensures.0)))
+
+-- none, or no such word
+pub loop-w-init : goal.loop-w-init
+loop-w-init c =
+    let p = c.args.self.part.now in
+    let n = c.args.self.n in
+    λ q k h.
+    elim c.else-n-ne0.branch [
+      | else-n-ne0-via-then-n-ne0+else-u64_at-n-ne0 w ↦
+          shifted_none p _ (n / 64) _ w.u64_at.result w.u64_at.ensures.1 w.if-u64_at-n-ne0.false q (omega arith) (omega arith)
+      | else-n-ne0-via-else-n-ne0 w ↦ absurd (omega (arith, w.if-n-ne0.false))
+    ]
+
+-- a one in word w
+pub returns-then-u64_at-ne0 : goal.returns-then-u64_at-ne0
+returns-then-u64_at-ne0 c =
+    let s = c.bits_start-start in
+    let p = c.args.self.part.now in
+    let w = c.loop-w.w in
+    let x = c.u64_at-in-loop-w in
+    let whole : x.result / 2 ^ 0 ≡ x.result = omega arith in
+    λ zeros. shifted_some p s.result w 0 x.result x.ensures.1 (omega arith) (λ z. c.if-u64_at-ne0.true (omega (arith, whole, z)))
+    (λ q k h. ap (λ (i : ℕ). bit_from p i q) s.ensures.0 ∙ zeros q (omega arith) (omega arith))
 
 pub loop-w-preserved : goal.loop-w-preserved
 loop-w-preserved c =
     let l = c.loop-w in
-    let a = c.args in
+    let p = c.args.self.part.now in
+    let x = c.u64_at-in-loop-w in
+    let whole : x.result / 2 ^ 0 ≡ x.result = omega arith in
     λ q m h.
     ⊎_elim (l.invariant q m)
-    (λ k. shifted_none a.self.part.now _ l.w _ c.u64_at.result c.u64_at.ensures.1 c.if-u64_at-saturating_sub-ne0.false q (omega (arith, c.saturating_sub.ensures)) h)
+    (λ k. shifted_none p _ l.w 0 x.result x.ensures.1 (whole ∙ c.if-u64_at-ne0.false) q (omega arith) h)
     (lt_or q (64 * l.w))

@@ -11,10 +11,16 @@ use Rattle.words.proofs.SearchLaws.{select_le}
 use Rattle.words.proofs.Sums.{lt_or}
 use Rattle.image.specs.Kinds.{kind1}
 use Rattle.image.specs.Rows.{Right}
+use Rattle.image.proofs.KindLaws.{entry_inside, bytes_inside, kind1_fits}
 use Rattle.image.proofs.EntryLaws.{kind1_indexed}
 use Rattle.image.proofs.PartLaws.{bits_of, told_le, told_above, place_there}
 use Rattle.image.proofs.reading.Record.position.Goals as goal
 use Rattle.image.proofs.reading.Record.position.Goals.{After-block_select-p, After-entry_values-said}
+
+pub entry_values-said-requires : goal.entry_values-said-requires
+entry_values-said-requires c =
+    let m = c.block_with-m in
+    omega (arith, m.ensures.0, entry_inside kind1 c.args.self.n (m.result / 8) (omega (arith, m.ensures.0)))
 
 -- what is not above is at most
 unless_above : {a b : ℕ} → (a < b → ⊥) → b ≤ a
@@ -34,6 +40,12 @@ pub returns-then-k-said : goal.returns-then-k-said
 returns-then-k-said c =
     let a = c.args in
     λ right. absurd (omega (arith, low (goal.at.returns-then-k-said c).After-entry_values-said right, c.if-k-said.true))
+
+pub block_at-block-requires : goal.block_at-block-requires
+block_at-block-requires c =
+    let m = c.block_with-m in
+    let inside = bytes_inside kind1 kind1_fits c.args.self.n (64 * m.result + 64) (omega (arith, m.ensures.0)) in
+    omega (arith, c.bits_start.ensures.0, m.ensures.0, inside)
 
 -- and the position in its block is that in the row
 place : (c : After-block_select-p) (low : Right kind1 c.args.self.part.now c.args.self.n

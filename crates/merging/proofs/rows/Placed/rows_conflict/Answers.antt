@@ -2,9 +2,9 @@
 use Rattle.std.proofs.Common.{◌≡◌, sym, ◌∙◌}
 use Rattle.image.specs.Chain.{kind_of}
 use Rattle.image.proofs.ChainLaws.{RecordFacts}
-use Rattle.image.proofs.WalkLaws.{standing_here, left_turn}
+use Rattle.image.proofs.WalkLaws.{standing_here, standing_end, left_turn}
 use Rattle.merging.proofs.RowsLaws.{obeys_least, row_walk_facts, row_walk_right}
-use Rattle.merging.proofs.LoopLaws.{Comparing, comparing_none, comparing_more, comparing_unequal}
+use Rattle.merging.proofs.LoopLaws.{Comparing, comparing_none, comparing_more, comparing_unequal, comparing_done}
 use Rattle.merging.proofs.rows.Placed.rows_conflict.Goals as goal
 use Rattle.merging.proofs.rows.Placed.rows_conflict.Goals.{In-Some}
 
@@ -49,3 +49,6 @@ loop-next-preserved c =
       stands = c.next_record-next.ensures;
       holds = comparing_more w.0 w.1 (sym c.row_conflicts.ensures ∙ c.if-row_conflicts.false);
     }
+
+pub returns : goal.returns
+returns c = comparing_done (standing_end c.loop-next.invariant c.in_default.is)
