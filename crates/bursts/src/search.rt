@@ -3,9 +3,10 @@
 ghost use Rattle.std.specs.Prelude.{◌≡◌, ℕ, ◌+◌, ◌*◌, ◌<◌, ◌≤◌, length};
 ghost use Rattle.words.specs.Bits.{bit, bit_at};
 ghost use Rattle.words.specs.Handles.{most_bits, words_of};
+ghost use Rattle.bursts.specs.Calls.{most_width};
 ghost use Rattle.bursts.specs.Working.{Holds, EightRuns, Searched, StartBelow};
 
-use super::window::{Windows, bounded_start, following};
+use super::window::{Windows, bounded_start, entering, entering_ones, following, leaving_ones};
 use std::ops::ControlFlow;
 use words::{ones_of, span_ones};
 
@@ -17,7 +18,7 @@ impl<'a> Windows<'a> {
     {
         let mut count = c;
         for j in from..to {
-            let most = count + ones_of(self.entering(j));
+            let most = count + ones_of(entering(self.words, self.w, j));
             if let Some(start) = self.start_in_word(j, count, most) {
                 return ControlFlow::Break(start);
             }
@@ -55,8 +56,8 @@ impl<'a> Windows<'a> {
         requires { (j + 8 ≤ words_of most_bits) × (64 * (j + 8) + self.w ≤ 64 * length self.words.now) × Holds self.words.now self.w (64 * j) c }
         ensures { Searched self.entry.words.now self.entry.w self.entry.m (64 * j) (64 * (j + 8)) result }
     {
-        let leaves = self.leaving_ones(j);
-        let enters = self.entering_ones(j);
+        let leaves = leaving_ones(self.words, j);
+        let enters = entering_ones(self.words, self.w, j);
         let mut have = c;
         let mut need = self.m;
         let mut reached = false;
@@ -85,18 +86,6 @@ impl<'a> Windows<'a> {
         self.search_words(to / 8 * 8, to, count)
     }
 
-    // The positions past the window that starts with word j, as far as they lie below n; no word past these is read.
-    fn entering_below(self, n: usize, j: usize) -> u64
-        requires { (64 * j + self.w ≤ n) × (n ≤ 64 * length self.words.now) × (n ≤ most_bits) }
-        ensures { (p : ℕ) → p < 64 → 64 * j + self.entry.w + p < n → bit result p ≡ bit_at self.entry.words.now (64 * j + self.entry.w + p) }
-    {
-        let last = j + (self.w - 1) / 64;
-        if n <= 64 * (last + 1) {
-            return following(self.words[last], 0, (self.w - 1) % 64);
-        }
-        self.entering(j)
-    }
-
     // The first start of a window in the first n positions that holds at least m ones.
     pub fn first_below(self, n: usize) -> Option<usize>
         requires { (n ≤ 64 * length self.words.now) × (n ≤ most_bits) }
@@ -112,8 +101,20 @@ impl<'a> Windows<'a> {
             ControlFlow::Continue(count) => count,
         };
         let rest = (n - self.w) % 64;
-        let e = self.entering_below(n, to);
+        let e = entering_below(self.words, n, self.w, to);
         let d = bounded_start(self.words[to], e, count, self.m, rest + 1)?;
         Some(64 * to + d)
     }
+}
+
+// The positions past the window that starts with word j, as far as they lie below n; no word past these is read.
+fn entering_below(words: &[u64], n: usize, w: usize, j: usize) -> u64
+    requires { (1 ≤ w) × (w ≤ most_width) × (64 * j + w ≤ n) × (n ≤ 64 * length words.now) × (n ≤ most_bits) }
+    ensures { (p : ℕ) → p < 64 → 64 * j + w + p < n → bit result p ≡ bit_at words.now (64 * j + w + p) }
+{
+    let last = j + (w - 1) / 64;
+    if n <= 64 * (last + 1) {
+        return following(words[last], 0, (w - 1) % 64);
+    }
+    entering(words, w, j)
 }

@@ -44,6 +44,40 @@ pub fn bounded_start(x: u64, e: u64, c: usize, m: usize, k: usize) -> Option<usi
     first_start(x, e, c, m, k)
 }
 
+// The 64 positions past the window that starts with word j: they enter as it moves on by a word.
+pub fn entering(words: &[u64], w: usize, j: usize) -> u64
+    requires { (1 ≤ w) × (w ≤ most_width) × (j ≤ words_of most_bits) × (64 * (j + 1) + w ≤ 64 * length words.now) }
+    ensures { (p : ℕ) → p < 64 → bit result p ≡ bit_at words.now (64 * j + w + p) }
+{
+    let last = j + (w - 1) / 64;
+    following(words[last], words[last + 1], (w - 1) % 64)
+}
+
+// The ones of each of the eight words from word j on.
+// Kept: beside `entering_ones`: one function for both would take a closure for the word, and its promise would say of it what `EightRuns` says here.
+pub fn leaving_ones(words: &[u64], j: usize) -> [usize; 8]
+    requires { j + 8 ≤ length words.now }
+    ensures { EightRuns words.now (64 * j) result }
+{
+    let mut counts = [0usize; 8];
+    for i in 0..8 {
+        counts[i] = ones_of(words[j + i]);
+    }
+    counts
+}
+
+// The ones of each of the eight runs of 64 positions past the window that starts with word j.
+pub fn entering_ones(words: &[u64], w: usize, j: usize) -> [usize; 8]
+    requires { (1 ≤ w) × (w ≤ most_width) × (j + 8 ≤ words_of most_bits) × (64 * (j + 8) + w ≤ 64 * length words.now) }
+    ensures { EightRuns words.now (64 * j + w) result }
+{
+    let mut counts = [0usize; 8];
+    for i in 0..8 {
+        counts[i] = ones_of(entering(words, w, j + i));
+    }
+    counts
+}
+
 // The windows of w positions over a list of words, of which one is sought that holds at least m ones.
 #[derive(Clone, Copy)]
 pub struct Windows<'a> {
@@ -54,15 +88,6 @@ pub struct Windows<'a> {
 }
 
 impl<'a> Windows<'a> {
-    // The 64 positions past the window that starts with word j: they enter as it moves on by a word.
-    pub fn entering(self, j: usize) -> u64
-        requires { (j ≤ words_of most_bits) × (64 * (j + 1) + self.w ≤ 64 * length self.words.now) }
-        ensures { (p : ℕ) → p < 64 → bit result p ≡ bit_at self.entry.words.now (64 * j + self.entry.w + p) }
-    {
-        let last = j + (self.w - 1) / 64;
-        following(self.words[last], self.words[last + 1], (self.w - 1) % 64)
-    }
-
     // The first start in word j whose window holds at least m ones. That of word j holds c; with the 64 positions past it, `most`: no window that starts in the
     // word holds more. Only where `most` reaches m is the word read here, and its starts tried.
     pub fn start_in_word(self, j: usize, c: usize, most: usize) -> Option<usize>
@@ -73,32 +98,13 @@ impl<'a> Windows<'a> {
         if most < self.m {
             return None;
         }
-        let d = first_start(self.words[j], self.entering(j), c, self.m, 64)?;
+        let d = first_start(
+            self.words[j],
+            entering(self.words, self.w, j),
+            c,
+            self.m,
+            64,
+        )?;
         Some(64 * j + d)
-    }
-
-    // The ones of each of the eight words from word j on.
-    // Kept: beside `entering_ones`: one function for both would take a closure for the word, and its promise would say of it what `EightRuns` says here.
-    pub fn leaving_ones(self, j: usize) -> [usize; 8]
-        requires { j + 8 ≤ length self.words.now }
-        ensures { EightRuns self.entry.words.now (64 * j) result }
-    {
-        let mut counts = [0usize; 8];
-        for i in 0..8 {
-            counts[i] = ones_of(self.words[j + i]);
-        }
-        counts
-    }
-
-    // The ones of each of the eight runs of 64 positions past the window that starts with word j.
-    pub fn entering_ones(self, j: usize) -> [usize; 8]
-        requires { (j + 8 ≤ words_of most_bits) × (64 * (j + 8) + self.w ≤ 64 * length self.words.now) }
-        ensures { EightRuns self.entry.words.now (64 * j + self.entry.w) result }
-    {
-        let mut counts = [0usize; 8];
-        for i in 0..8 {
-            counts[i] = ones_of(self.entering(j + i));
-        }
-        counts
     }
 }

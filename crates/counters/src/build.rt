@@ -5,7 +5,7 @@ ghost use Rattle.counters.specs.Record.{AllFit};
 ghost use Rattle.counters.specs.Working.{most_blocks, TreeOver, node_from, GroupFrom};
 ghost use Rattle.counters.specs.Building.{Readable, Ready, child_holds, children_of, NodeBuilt, LevelBuilt};
 
-use super::shape::{CHILDREN, Level, NODE_COUNTERS, Tree, above, height_of, node_ones};
+use super::shape::{CHILDREN, Level, NODE_COUNTERS, above, height_of, node_ones, ones_held};
 use words::{block_at, block_ones};
 
 // Kept: words, counters, t and below apart: `build_level` writes counters between two of these reads, so a struct would be made anew for each node.
@@ -108,10 +108,5 @@ pub fn build_counters(words: &[u64], counters: &mut [u32], blocks: usize) -> usi
         level = above(below);
         build_level(words, counters, t, below, level);
     }
-    Tree {
-        blocks,
-        words,
-        counters,
-    }
-    .ones_held()
+    ones_held(counters, blocks)
 }

@@ -9,7 +9,7 @@ ghost use Rattle.counters.specs.Working.{Decides};
 ghost use Rattle.counters.specs.Building.{Ready, child_holds, NodeAt, LevelFrom};
 
 use super::build::{children_ones, fill_node};
-use super::shape::{CHILDREN, Level, NODE_COUNTERS, Tree, above, height_of};
+use super::shape::{CHILDREN, Level, NODE_COUNTERS, Tree, above, height_of, ones_held};
 use words::{BLOCK_BITS, Handle, first_from};
 
 // Whether node j of the level that starts at `at` is as laid for children that hold these numbers.
@@ -81,5 +81,5 @@ pub fn record_fits(h: Handle, words: &[u64], counters: &[u32]) -> bool
     if !tree.fits() {
         return false;
     }
-    tree.ones_held() == h.total
+    ones_held(counters, blocks) == h.total
 }

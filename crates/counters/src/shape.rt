@@ -126,6 +126,14 @@ pub fn node_ones(counters: &[u32], at: usize) -> usize
     wide(counters[at + LAST_SUMMARY]) + wide(counters[at + LAST_KEY])
 }
 
+// The ones that a record holds, by its root.
+pub fn ones_held(counters: &[u32], blocks: usize) -> usize
+    requires { TreeOver blocks counters.now }
+    ensures { (result ≤ most_pair) × OnesHeld blocks counters.now result }
+{
+    node_ones(counters, 0)
+}
+
 // So many blocks of words, and the counters over them.
 #[derive(Clone, Copy)]
 pub struct Tree<'a> {
@@ -134,13 +142,4 @@ pub struct Tree<'a> {
     pub counters: &'a [u32],
     ghost covered: { length words.now ≡ 8 * blocks },
     ghost whole: { TreeOver blocks counters.now },
-}
-
-impl<'a> Tree<'a> {
-    // The ones that a record holds, by its root.
-    pub fn ones_held(self) -> usize
-        ensures { (result ≤ most_pair) × OnesHeld self.entry.blocks self.entry.counters.now result }
-    {
-        node_ones(self.counters, 0)
-    }
 }

@@ -1,5 +1,5 @@
--- `image::chain::scan_chain` meets its contract. The invariant: what is told of the records walked, and the rest of the chain from `next` on. The
--- measure is what is left of the image past it. Assumes nothing.
+-- `image::chain::scan_chain` meets its contract. The invariant: what is told of the records walked, among it the label's record o, by its byte, and the rest of
+-- the chain from `next` on. The measure is what is left of the image past it. Assumes nothing.
 use Rattle.std.proofs.Common.{◌≡◌, refl, sym, true, cond, eqb, eq-eqb, ne_eqb, arith}
 use Rattle.std.specs.Prelude.{Some, None}
 use Rattle.image.specs.Chain.{kind_of, sound_record}

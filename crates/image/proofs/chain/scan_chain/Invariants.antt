@@ -1,5 +1,5 @@
--- `image::chain::scan_chain` meets its contract. The invariant: what is told of the records walked, among it the label's record o, by its byte, and the rest of the chain from `next` on. The
--- measure is what is left of the image past it. Assumes nothing.
+-- `image::chain::scan_chain` meets its contract. The invariant: what is told of the records walked, among it the label's record o, by its byte, and the rest of
+-- the chain from `next` on. The measure is what is left of the image past it. Assumes nothing.
 use Rattle.std.proofs.Common.{ℕ, length}
 use Rattle.std.specs.Prelude.{Option, unwrap_or}
 use Rattle.image.specs.Walk.{RecordAt}

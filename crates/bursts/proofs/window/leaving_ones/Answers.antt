@@ -1,4 +1,4 @@
--- `bursts::window::Windows::leaving_ones` meets its contract. The invariant: the numbers before i are the ones of the runs. Assumes nothing.
+-- `bursts::window::leaving_ones` meets its contract. The invariant: the numbers before i are the ones of the runs. Assumes nothing.
 use mathlib.Core.Path.{◌≡◌, sym, ap, ◌∙◌}
 use mathlib.Core.List.{List}
 use Prim.Native.Nat.{ℕ, ◌+◌, ◌*◌, ◌<◌}
@@ -9,7 +9,7 @@ use Rattle.words.proofs.Sums.{stored_more}
 use Rattle.words.proofs.WordLaws.{word_bit}
 use Rattle.bursts.specs.Working.{run_ones}
 use Rattle.bursts.proofs.WindowLaws.{run_word}
-use Rattle.bursts.proofs.window.Windows.leaving_ones.Goals as goal
+use Rattle.bursts.proofs.window.leaving_ones.Goals as goal
 
 -- the bits of word j + i are those of run i
 run : (ws : List ℕ) (j i p : ℕ) → p < 64 → bit (get_or ws (j + i) 0) p ≡ bit_at ws (64 * j + 64 * i + p)
@@ -19,7 +19,7 @@ pub loop-i-preserved : goal.loop-i-preserved
 loop-i-preserved c =
     let a = c.args in
     let l = c.loop-i in
-    let ws = a.self.words.now in (
+    let ws = a.words.now in (
       simp length-set l.invariant.0,
       omega arith,
       stored_more (run_ones ws (64 * a.j)) l.counts l.i c.ones_of.result (omega arith) l.invariant.2
