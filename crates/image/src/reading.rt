@@ -177,10 +177,14 @@ impl<'a> Record<'a> {
         let n = self.n;
         let start = bits_start(n);
         let end = SUPERBLOCK_WORDS * superblocks_of(n);
-        if n % 64 != 0 && u64_at(part, start + 8 * (n / 64)) >> (n % 64) != 0 {
+        let first = n / 64;
+        if first == end {
+            return true;
+        }
+        if u64_at(part, start + 8 * first) >> (n % 64) != 0 {
             return false;
         }
-        for w in (n + 63) / 64..end {
+        for w in first + 1..end {
             if u64_at(part, start + 8 * w) != 0 {
                 return false;
             }

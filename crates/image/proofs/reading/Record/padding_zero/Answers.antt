@@ -5,7 +5,6 @@ use Rattle.words.proofs.Sums.{lt_or}
 use Rattle.image.specs.Bytes.{bit_from}
 use Rattle.image.proofs.RightLaws.{shifted_none, shifted_some}
 use Rattle.image.proofs.reading.Record.padding_zero.Goals as goal
-use Rattle.image.proofs.reading.Record.padding_zero.Goals.{else-n-ne0-via-then-n-ne0+else-u64_at-n-ne0, else-n-ne0-via-else-n-ne0}
 
 -- a one in the word that position n parts
 pub returns-then-u64_at-n-ne0 : goal.returns-then-u64_at-n-ne0
@@ -14,19 +13,12 @@ returns-then-u64_at-n-ne0 c =
     let p = c.args.self.part.now in
     let n = c.args.self.n in
     λ zeros. shifted_some p s.result (n / 64) _ c.u64_at.result c.u64_at.ensures.1 (omega arith) c.if-u64_at-n-ne0.true
-    (λ q k h. ap (λ (i : ℕ). bit_from p i q) s.ensures.0 ∙ zeros q (omega arith) (omega (arith, c.if-n-ne0.true, c.superblocks_of-end.ensures.0)))
+    (λ q k h. ap (λ (i : ℕ). bit_from p i q) s.ensures.0 ∙ zeros q (omega arith) (omega (arith, c.if-first-end.false, c.superblocks_of-end.ensures.0)))
 
--- none, or no such word
+-- none
 pub loop-w-init : goal.loop-w-init
 loop-w-init c =
-    let p = c.args.self.part.now in
-    let n = c.args.self.n in
-    λ q k h.
-    elim c.else-n-ne0.branch [
-      | else-n-ne0-via-then-n-ne0+else-u64_at-n-ne0 w ↦
-          shifted_none p _ (n / 64) _ w.u64_at.result w.u64_at.ensures.1 w.if-u64_at-n-ne0.false q (omega arith) (omega arith)
-      | else-n-ne0-via-else-n-ne0 w ↦ absurd (omega (arith, w.if-n-ne0.false))
-    ]
+    λ q k h. shifted_none c.args.self.part.now _ (c.args.self.n / 64) _ c.u64_at.result c.u64_at.ensures.1 c.if-u64_at-n-ne0.false q (omega arith) (omega arith)
 
 -- a one in word w
 pub returns-then-u64_at-ne0 : goal.returns-then-u64_at-ne0
